@@ -27,6 +27,8 @@ const RELOAD: Token = Token(2);
 const LISTENER: Token = Token(3);
 const CLIENTS: usize = 16;
 const PORTS: usize = 1024;
+/// Beyond the port of any device.
+const ECHOES: usize = PORTS + (1 << 32);
 /// How many datagrams of one device are taken before a write.
 const MOST_AT_ONCE: usize = 64;
 /// After this time something is tried again that the system has refused.
@@ -50,8 +52,9 @@ pub struct Daemon {
     ports: BTreeMap<u32, Port>,
     /// The mark of this process in its echo requests.
     mark: u64,
-    /// Ports at which datagrams may wait.
+    /// Ports at which datagrams may wait, and those at which answers to echo requests may wait.
     ready: BTreeSet<u32>,
+    answered: BTreeSet<u32>,
     control: Control,
     _ends: signal_hook_pipe::Pipe,
     reloads: signal_hook_pipe::Pipe,
@@ -174,6 +177,7 @@ impl Daemon {
             ports: BTreeMap::new(),
             mark,
             ready: BTreeSet::new(),
+            answered: BTreeSet::new(),
             control,
             _ends: ends,
             reloads,
@@ -266,6 +270,7 @@ impl Daemon {
         self.devices.remove(&index);
         self.ports.remove(&index);
         self.ready.remove(&index);
+        self.answered.remove(&index);
         let now = self.now();
         if self.machine.devices.contains_key(&index) {
             self.machine.device_is_gone(index, now);
@@ -322,7 +327,7 @@ impl Daemon {
     /// The socket for echo requests. Without it the daemon notices later that a link carries nothing.
     fn open_echo(&mut self, it: &DeviceNews) -> Option<Echo> {
         let opened = Echo::open(&it.name, it.index, self.mark).and_then(|echo| {
-            let token = Token(PORTS + it.index as usize);
+            let token = Token(ECHOES + it.index as usize);
             follow(&self.poll, echo.descriptor(), token)?;
             Ok(echo)
         });
@@ -364,6 +369,7 @@ impl Daemon {
                     RELOAD => self.reload(),
                     LISTENER => self.control.accept(self.poll.registry()),
                     Token(it) if self.control.has(it) => self.serve(it),
+                    Token(it) if it >= ECHOES => drop(self.answered.insert((it - ECHOES) as u32)),
                     Token(it) if it >= PORTS => drop(self.ready.insert((it - PORTS) as u32)),
                     _ => (),
                 }
@@ -373,7 +379,7 @@ impl Daemon {
     }
 
     fn patience(&self) -> Duration {
-        if !self.ready.is_empty() {
+        if !self.ready.is_empty() || !self.answered.is_empty() {
             return Duration::ZERO;
         }
         let times = [self.retry, self.quiet]
@@ -426,6 +432,8 @@ impl Daemon {
                     break;
                 }
             }
+        }
+        for index in std::mem::take(&mut self.answered) {
             self.take_answers(index);
         }
     }
@@ -445,7 +453,7 @@ impl Daemon {
                 }
             }
         }
-        self.ready.insert(index);
+        self.answered.insert(index);
     }
 
     fn send(&mut self) {

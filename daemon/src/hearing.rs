@@ -58,8 +58,12 @@ impl<K: Kernel> Machine<K> {
             return false;
         }
         match body {
-            Body::Hello(said) => self.take_hello(device, source, head, &said, now),
+            Body::Hello(said) => {
+                self.is_quiet &= self.is_usual(device, source, head, &said);
+                self.take_hello(device, source, head, &said, now)
+            }
             Body::News(address, records) => {
+                self.is_quiet = false;
                 self.take_news(device, source, head, (address, &records), now)
             }
         }
@@ -141,6 +145,16 @@ impl<K: Kernel> Machine<K> {
         }
         self.hear_from(head, device, hears_me, now);
         true
+    }
+
+    /// Whether a hello says only that all is as before.
+    fn is_usual(&self, device: u32, source: Ipv6Addr, head: Head, said: &Hello) -> bool {
+        let hears_me = said.heard.contains(&self.start);
+        let is_as_before = |it: &Adjacency| {
+            (it.address, it.mac, it.is_heard, it.hears_me) == (source, said.mac, true, hears_me)
+                && it.is_two_way() == it.is_up
+        };
+        said.known.is_empty() && self.link(head.from, device).is_some_and(is_as_before)
     }
 
     /// Whether a hello has not been heard before, on whatever device. All hellos from one device of a neighbour belong to

@@ -136,6 +136,10 @@ pub struct Machine<K> {
     /// A later session of this router that a neighbour knows. Then the machine has to end.
     pub later_session: Option<u32>,
     pub counts: Counts,
+    /// Whether nothing has happened since the last turn but hellos that say nothing new. Then a turn has nothing to do before
+    /// `due`.
+    pub is_quiet: bool,
+    due: Duration,
     /// How many nodes this process has started.
     starts: u32,
     last_hop: u32,
@@ -188,6 +192,8 @@ impl<K: Kernel> Machine<K> {
             asks: Vec::new(),
             later_session: None,
             counts: Counts::default(),
+            is_quiet: false,
+            due: Duration::ZERO,
             starts: 0,
             last_hop: HOPS,
             last_sender: SENDERS,
@@ -276,6 +282,7 @@ impl<K: Kernel> Machine<K> {
         has_carrier: bool,
         now: Duration,
     ) {
+        self.is_quiet = false;
         let is_lan = self.settings.lans.contains(name);
         let router = self.settings.router;
         let it = self.devices.entry(index).or_insert_with(|| Device {
@@ -309,6 +316,7 @@ impl<K: Kernel> Machine<K> {
 
     /// A device is gone, or is not to be used any more.
     pub fn device_is_gone(&mut self, index: u32, now: Duration) {
+        self.is_quiet = false;
         self.lose_device(index, "the device is not used any more", now);
         if let Some(it) = self.devices.remove(&index) {
             self.close_for_good(index, &it.name, now);
@@ -465,6 +473,7 @@ impl<K: Kernel> Machine<K> {
 
     /// A neighbour has started again, or is new.
     pub fn begin_session(&mut self, number: u32, start: Start, now: Duration) {
+        self.is_quiet = false;
         let devices: Vec<u32> = match self.neighbours.get(&number) {
             Some(it) => it.links.keys().copied().collect(),
             None => Vec::new(),
@@ -497,6 +506,7 @@ impl<K: Kernel> Machine<K> {
 
     /// Takes other settings. Nothing is lost that is in both. The number of the router stays.
     pub fn configure(&mut self, settings: Settings, now: Duration) {
+        self.is_quiet = false;
         let before = std::mem::replace(&mut self.settings, settings);
         let (old, new) = (before.announce, self.settings.announce.clone());
         for prefix in new.difference(&old) {
@@ -538,15 +548,36 @@ impl<K: Kernel> Machine<K> {
             return;
         }
         let now = clock();
+        if self.is_quiet {
+            self.due = self.due_time();
+            if now < self.due {
+                return;
+            }
+        }
+        let refused = self.counts.lines_refused;
         self.look_around(now);
         self.settle(now);
         self.release();
         // What is said is as old as it looks only after the writes.
         self.speak(clock());
+        self.due = self.due_time();
+        // What was refused is tried again at each turn.
+        self.is_quiet = refused == self.counts.lines_refused
+            && self.retries.is_empty()
+            && self.unprepared.is_empty()
+            && self.devices.values().all(|it| it.is_ready);
     }
 
     /// When the next turn is due, even if nothing happens.
     pub fn next_time(&self) -> Duration {
+        if self.is_quiet {
+            self.due
+        } else {
+            self.due_time()
+        }
+    }
+
+    fn due_time(&self) -> Duration {
         if !self.changed.is_empty() {
             return Duration::ZERO;
         }
