@@ -133,7 +133,7 @@ impl<K: Kernel> Machine<K> {
             return false;
         }
         self.look_for_another(&said.known);
-        let (hears_me, mac) = (said.heard.contains(&self.start), said.mac);
+        let (hears_me, mac) = (self.is_heard_in(said), said.mac);
         if self.is_lan(device) && self.link(head.from, device).and_then(|it| it.mac) != mac {
             self.take_down_link(head.from, device, "it has another hardware address", now);
         }
@@ -147,9 +147,14 @@ impl<K: Kernel> Machine<K> {
         true
     }
 
+    /// Whether the sender of a hello hears this process.
+    fn is_heard_in(&self, said: &Hello) -> bool {
+        said.heard.contains(&self.start)
+    }
+
     /// Whether a hello says only that all is as before.
     fn is_usual(&self, device: u32, source: Ipv6Addr, head: Head, said: &Hello) -> bool {
-        let hears_me = said.heard.contains(&self.start);
+        let hears_me = self.is_heard_in(said);
         let is_as_before = |it: &Adjacency| {
             (it.address, it.mac, it.is_heard, it.hears_me) == (source, said.mac, true, hears_me)
                 && it.is_two_way() == it.is_up
