@@ -58,10 +58,7 @@ impl<K: Kernel> Machine<K> {
             return false;
         }
         match body {
-            Body::Hello(said) => {
-                self.is_quiet &= self.is_usual(device, source, head, &said);
-                self.take_hello(device, source, head, &said, now)
-            }
+            Body::Hello(said) => self.take_hello(device, source, head, &said, now),
             Body::News(address, records) => {
                 self.is_quiet = false;
                 self.take_news(device, source, head, (address, &records), now)
@@ -133,7 +130,7 @@ impl<K: Kernel> Machine<K> {
             return false;
         }
         self.look_for_another(&said.known);
-        let (hears_me, mac) = (self.is_heard_in(said), said.mac);
+        let (hears_me, mac) = (said.heard.contains(&self.start), said.mac);
         if self.is_lan(device) && self.link(head.from, device).and_then(|it| it.mac) != mac {
             self.take_down_link(head.from, device, "it has another hardware address", now);
         }
@@ -145,21 +142,6 @@ impl<K: Kernel> Machine<K> {
         }
         self.hear_from(head, device, hears_me, now);
         true
-    }
-
-    /// Whether the sender of a hello hears this process.
-    fn is_heard_in(&self, said: &Hello) -> bool {
-        said.heard.contains(&self.start)
-    }
-
-    /// Whether a hello says only that all is as before.
-    fn is_usual(&self, device: u32, source: Ipv6Addr, head: Head, said: &Hello) -> bool {
-        let hears_me = self.is_heard_in(said);
-        let is_as_before = |it: &Adjacency| {
-            (it.address, it.mac, it.is_heard, it.hears_me) == (source, said.mac, true, hears_me)
-                && it.is_two_way() == it.is_up
-        };
-        said.known.is_empty() && self.link(head.from, device).is_some_and(is_as_before)
     }
 
     /// Whether a hello has not been heard before, on whatever device. All hellos from one device of a neighbour belong to

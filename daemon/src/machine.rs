@@ -136,8 +136,8 @@ pub struct Machine<K> {
     /// A later session of this router that a neighbour knows. Then the machine has to end.
     pub later_session: Option<u32>,
     pub counts: Counts,
-    /// Whether nothing has happened since the last turn but hellos that say nothing new. Then a turn has nothing to do before
-    /// `due`.
+    /// Whether the last turn has done all that was to be done, and nothing but hellos has come since. Then a turn does nothing
+    /// before `due`. What changes by a hello is due at once.
     pub is_quiet: bool,
     due: Duration,
     /// How many nodes this process has started.

@@ -709,6 +709,21 @@ fn the_round_trip_is_without_the_waits_of_both_ends() {
     }
 }
 
+/// Whoever hears something new acknowledges it in the same turn, and not when its next hello is due.
+#[test]
+fn nothing_is_said_twice_where_nothing_is_lost() {
+    let (mut lab, other) = (Lab::new(&RING, 21), prefix("10.9.0.0/16"));
+    lab.start_all();
+    lab.run(seconds(3));
+    for is_own in [true, false, true] {
+        lab.announce(0, other, is_own);
+        lab.run(seconds(3));
+    }
+    for (router, machine) in &lab.machines {
+        assert_eq!(machine.counts.datagrams_unanswered, 0, "{router}");
+    }
+}
+
 #[test]
 fn a_hold_ends() {
     let mut lab = Lab::new(&RING, 10);
