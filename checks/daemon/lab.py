@@ -7,6 +7,7 @@ usage: checks/daemon/lab.py REVROUTED
 import contextlib
 import json
 import os
+import shutil
 import signal
 import socket
 import statistics
@@ -19,6 +20,7 @@ TOP = Path(__file__).resolve().parents[2]
 sys.dont_write_bytecode = True
 sys.path.insert(0, str(TOP / "examples" / "linux"))
 import inside  # noqa: E402
+from daemon_network import built  # noqa: E402
 from namespaces import RUN, entered  # noqa: E402
 
 PROGRAM, STATE, ROUTERS, PORT = TOP / "examples" / "linux" / "three-routers", Path(RUN, "three-routers"), (1, 2, 3), 7
@@ -239,6 +241,22 @@ def wrong_words():
     expect("NEIGHBOUR" in done("ask", 1, "status") and "PREFIX" in done("ask", 1, "routes"), "no table of neighbours or routes")
 
 
+def refused_start():
+    """A process that may not change routes, or whose kernel is too old, says so and ends with the status 2. It leaves nothing."""
+    program, file, folder = os.environ["REVROUTED"], STATE / "4.toml", STATE / "4"
+    folder.mkdir()
+    file.write_text(f'router = 4\ninterfaces = ["to*"]\nstate = "{folder}"\ncontrol = "{folder}.control"\n')
+    old = {"LD_PRELOAD": str(built("storm.c", "-shared", "-fPIC")), "STORM": "old=1"} if shutil.which("cc") else None
+    tried = [(["setpriv", "--bounding-set", "-net_admin"], {}, "it needs CAP_NET_ADMIN")]
+    tried += [([], old, "it needs Linux 5.3")] if old else []
+    for words, environment, part in tried:
+        asked = [*words, program, "run", "--config", str(file)]
+        how = {"stdout": subprocess.PIPE, "stderr": subprocess.STDOUT, "text": True, "timeout": SECONDS}
+        ran = subprocess.run(asked, env={**os.environ, **environment}, **how)
+        expect(ran.returncode == 2 and part in ran.stdout, f"{part}: status {ran.returncode}: {ran.stdout}")
+        expect(not any(folder.iterdir()), f"{part}: it has used the folder of the boot number")
+
+
 def check():
     first_network()
     took, started = lost_link(), killed_process()
@@ -246,6 +264,7 @@ def check():
     number_gone_back()
     reloaded()
     wrong_words()
+    refused_start()
     return f"daemon: three routers reach each other by IPv4 and IPv6, {took:.1f} s after a link is cut, {1000 * started:.0f} ms after a start"
 
 

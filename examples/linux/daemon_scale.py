@@ -10,6 +10,8 @@ from daemon_network import Announced, Network, announced_by_all, seconds_of
 from namespaces import beside
 
 SECONDS_TO_SETTLE, SECONDS_BETWEEN = 600, 0.2
+# After a start, the kernels of neighbours ask for hardware addresses, and daemons ask these kernels once.
+SECONDS_TO_REST = 6
 # What a daemon says of a neighbour that is silent. If nothing fails, the machine is too busy for the timers.
 SILENT = "nothing is heard from it", "its kernel does not answer"
 LONGEST_ANSWER = 1 << 16
@@ -86,6 +88,7 @@ def measured(asked, daemon, names, links):
         network.start(*names)
         figures["settled"] = seconds_to_settle(network, len(prefixes))
         figures["processor seconds to settle"] = round(network.seconds() / len(names), 2)
+        time.sleep(SECONDS_TO_REST)
         figures["idle"] = idle(network, asked.quiet)
         memory = network.memory()
         figures["memory KiB"] = [round(statistics.median(memory)), max(memory)]

@@ -5,6 +5,7 @@
 //   mute     the share of datagrams that are lost together with all others of the socket for up to 1.5 seconds
 //   slow     the most seconds that a write to the kernel takes
 //   refused  the share of requests in writes that the kernel refuses, from the first datagram on
+//   old      1 if the kernel knows no nexthop objects, as before Linux 5.3
 //   clock    seconds by which the clock of the day is ahead
 #define _GNU_SOURCE
 #include <dlfcn.h>
@@ -36,7 +37,7 @@ struct late {
 };
 
 static double share_lost, share_late, share_mute, most_slow, share_refused, ahead;
-static int has_begun;
+static int has_begun, is_old;
 static double mute_until[MOST_SOCKETS];
 static struct late *held[MOST_LATE];
 static unsigned short draws[3];
@@ -74,6 +75,7 @@ __attribute__((constructor)) static void begin(void) {
     share_mute = number_of(words, "mute=");
     most_slow = number_of(words, "slow=");
     share_refused = number_of(words, "refused=");
+    is_old = number_of(words, "old=") > 0;
     ahead = number_of(words, "clock=");
 }
 
@@ -149,8 +151,9 @@ static void spoil(char *data, size_t size) {
     int left = (int)size;
     for (struct nlmsghdr *it = (void *)data; NLMSG_OK(it, (unsigned)left); it = NLMSG_NEXT(it, left)) {
         // of four kinds in a row, the third one asks, and the fourth is not there
-        int is_write = it->nlmsg_type >= RTM_BASE && it->nlmsg_type % 4 < 2;
-        if (is_write && chance() < share_refused) it->nlmsg_type = NO_REQUEST;
+        int is_write = has_begun && it->nlmsg_type >= RTM_BASE && it->nlmsg_type % 4 < 2;
+        int is_new = it->nlmsg_type >= RTM_NEWNEXTHOP && it->nlmsg_type <= RTM_GETNEXTHOP;
+        if ((is_old && is_new) || (is_write && chance() < share_refused)) it->nlmsg_type = NO_REQUEST;
     }
 }
 
@@ -164,7 +167,7 @@ static ssize_t write_to_kernel(int file, const struct msghdr *message, int flags
     char *to = copy;
     for (size_t part = 0; part < message->msg_iovlen; part++)
         to = mempcpy(to, message->msg_iov[part].iov_base, message->msg_iov[part].iov_len);
-    if (has_begun) spoil(copy, size);
+    spoil(copy, size);
     pthread_mutex_unlock(&lock);
     usleep(wait * 1e6);
     spoilt.msg_iov = &whole;
