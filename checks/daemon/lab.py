@@ -7,7 +7,6 @@ usage: checks/daemon/lab.py REVROUTED
 import contextlib
 import json
 import os
-import shutil
 import signal
 import socket
 import statistics
@@ -246,9 +245,8 @@ def refused_start():
     program, file, folder = os.environ["REVROUTED"], STATE / "4.toml", STATE / "4"
     folder.mkdir()
     file.write_text(f'router = 4\ninterfaces = ["to*"]\nstate = "{folder}"\ncontrol = "{folder}.control"\n')
-    old = {"LD_PRELOAD": str(built("storm.c", "-shared", "-fPIC")), "STORM": "old=1"} if shutil.which("cc") else None
-    tried = [(["setpriv", "--bounding-set", "-net_admin"], {}, "it needs CAP_NET_ADMIN")]
-    tried += [([], old, "it needs Linux 5.3")] if old else []
+    old = {"LD_PRELOAD": str(built("storm.c", "-shared", "-fPIC")), "STORM": "old=1"}
+    tried = [(["setpriv", "--bounding-set", "-net_admin"], {}, "it needs CAP_NET_ADMIN"), ([], old, "it needs Linux 5.3")]
     for words, environment, part in tried:
         asked = [*words, program, "run", "--config", str(file)]
         how = {"stdout": subprocess.PIPE, "stderr": subprocess.STDOUT, "text": True, "timeout": SECONDS}

@@ -136,10 +136,9 @@ pub struct Machine<K> {
     /// A later session of this router that a neighbour knows. Then the machine has to end.
     pub later_session: Option<u32>,
     pub counts: Counts,
-    /// Whether the last turn has done all that was to be done, and nothing but hellos has come since. Then a turn does nothing
-    /// before `due`. What changes by a hello is due at once.
+    /// Whether the last turn has done all that was to be done, and nothing but hellos has come since. Then there is nothing to
+    /// do before the next time: a hello that changes a link makes the next hello due at once.
     pub is_quiet: bool,
-    due: Duration,
     /// How many nodes this process has started.
     starts: u32,
     last_hop: u32,
@@ -193,7 +192,6 @@ impl<K: Kernel> Machine<K> {
             later_session: None,
             counts: Counts::default(),
             is_quiet: false,
-            due: Duration::ZERO,
             starts: 0,
             last_hop: HOPS,
             last_sender: SENDERS,
@@ -548,11 +546,8 @@ impl<K: Kernel> Machine<K> {
             return;
         }
         let now = clock();
-        if self.is_quiet {
-            self.due = self.due_time();
-            if now < self.due {
-                return;
-            }
+        if self.is_quiet && now < self.next_time() {
+            return;
         }
         let refused = self.counts.lines_refused;
         self.look_around(now);
@@ -560,7 +555,6 @@ impl<K: Kernel> Machine<K> {
         self.release();
         // What is said is as old as it looks only after the writes.
         self.speak(clock());
-        self.due = self.due_time();
         // What was refused is tried again at each turn.
         self.is_quiet = refused == self.counts.lines_refused
             && self.retries.is_empty()
@@ -570,14 +564,6 @@ impl<K: Kernel> Machine<K> {
 
     /// When the next turn is due, even if nothing happens.
     pub fn next_time(&self) -> Duration {
-        if self.is_quiet {
-            self.due
-        } else {
-            self.due_time()
-        }
-    }
-
-    fn due_time(&self) -> Duration {
         if !self.changed.is_empty() {
             return Duration::ZERO;
         }

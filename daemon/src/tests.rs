@@ -11,8 +11,9 @@ use crate::kernel::Refusal;
 use crate::machine::{HOLD, LONGEST_DEAD, Machine, SENDERS};
 use crate::view::{neighbours_text, status_text};
 use crate::writing::LATER;
-use lab::{Lab, own, prefix, seconds};
+use lab::{Lab, STEP, own, prefix, seconds};
 use std::cell::Cell;
+use std::collections::BTreeSet;
 use std::time::Duration;
 use world::{Handle, address, mac};
 
@@ -41,6 +42,24 @@ fn nothing_but_hellos_is_said_when_nothing_changes() {
         lab.sent - before
     );
     assert_eq!(lab.machines[&0].counts.messages_said, said);
+}
+
+#[test]
+fn what_comes_in_is_dropped_in_the_turn_that_finds_a_link_down() {
+    let mut lab = Lab::new(&[(0, 1)], 101);
+    lab.announced.values_mut().for_each(BTreeSet::clear);
+    lab.start(0);
+    lab.run(Duration::from_millis(300));
+    lab.start(1);
+    lab.run(seconds(3));
+    assert!(lab.world.borrow().tables[&0].hold.is_empty());
+    // Router 1 hears nothing, and says so in a hello.
+    lab.cut.insert((0, 1));
+    while lab.machines[&0].neighbours[&1].is_up {
+        assert!(lab.now < seconds(10));
+        lab.run(STEP);
+    }
+    assert!(!lab.world.borrow().tables[&0].hold.is_empty());
 }
 
 #[test]
