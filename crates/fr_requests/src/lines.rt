@@ -12,7 +12,11 @@ use json::Scratch;
 use std::alloc::{AllocError, Global};
 use std::fmt::{self, Formatter, Write};
 
-/// Reads lines as requests, and keeps memory from one line to the next.
+/// The memory for a longer line is not kept.
+const LONGEST_KEPT: usize = 1 << 16;
+
+/// Reads lines as requests, and keeps some memory from one line to the next. It gives back the memory for a line of more
+/// than 64 KB.
 #[derive(Drop)]
 pub struct LineReader {
     // For the first line that is not read by its bytes, and for each such line after it.
@@ -57,18 +61,20 @@ impl LineReader {
                 return Ok(request);
             }
         }
-        read_value(alloc, line, self.scratch(alloc)?)
+        let read = read_value(alloc, line, self.scratch(alloc)?);
+        if line.len() > LONGEST_KEPT {
+            self.scratch = None;
+        }
+        read
     }
 
     /// The memory for values of JSON, which is made when it is first needed.
     fn scratch(&mut self, alloc: Global) -> Result<&mut Scratch, AllocError> {
-        if self.scratch.is_none() {
-            self.scratch = Some(Box::new(alloc, Scratch::new(alloc))?);
-        }
-        match &mut self.scratch {
-            Some(scratch) => Ok(scratch),
-            None => Err(AllocError),
-        }
+        let scratch = match self.scratch.take() {
+            Some(scratch) => scratch,
+            None => Box::new(alloc, Scratch::new(alloc))?,
+        };
+        Ok(self.scratch.insert(scratch))
     }
 }
 
