@@ -1,6 +1,7 @@
 //! Numbers of JSON, as `serde_json` reads them.
 
-ghost use Rattle.std.specs.Prelude.{◌≡◌, ◌==◌, ◌<◌, IsTrue, is_some, length, option_and_then, slice_index, true, false};
+ghost use Rattle.std.specs.Prelude.{◌≡◌, ◌==◌, ◌<◌, IsTrue, is_some, length, option_and_then, slice_index};
+ghost use Rattle.std.specs.Prelude.{true, false};
 ghost use Rattle.fast_float.specs.Text.{Parts};
 ghost use Rattle.json.specs.Value.{items_view, members_view, value_view};
 ghost use Rattle.serde_json.specs.Find.{as_u64};
@@ -31,7 +32,7 @@ pub(crate) fn natural(text: &str) -> Option<u64>
     unsigned_natural(&Numeral::scan(number))
 }
 
-/// The same for a number without a sign.
+/// What [`natural`] returns for a number that begins with no minus.
 #[inline(always)]
 fn unsigned_natural(numeral: &Numeral<'_>) -> Option<u64>
     ensures { result ≡ option_and_then as_u64 (number_from false numeral.now) }
@@ -51,7 +52,7 @@ fn is_in_range(text: &str) -> bool
     }
 }
 
-/// The same for a number without a sign.
+/// Whether `serde_json` reads a number that begins with no minus.
 #[inline(always)]
 fn is_unsigned_in_range(numeral: &Numeral<'_>) -> bool
     ensures { result ≡ is_some (number_from false numeral.now) }
@@ -59,7 +60,7 @@ fn is_unsigned_in_range(numeral: &Numeral<'_>) -> bool
     numeral.to_u64().is_some() || numeral.to_float::<f64>(false).is_finite()
 }
 
-/// The same for a number after a minus.
+/// Whether `serde_json` reads a number whose digits follow a minus.
 fn is_negative_in_range(numeral: &Numeral<'_>) -> bool
     ensures { result ≡ is_some (number_from true numeral.now) }
 {
@@ -82,7 +83,7 @@ pub(crate) fn is_readable(value: &Value<'_>) -> bool
     }
 }
 
-/// The same for the items of an array.
+/// Whether `serde_json` reads each number of the items of an array.
 #[cycle(readable)]
 fn are_readable(items: &[Value<'_>]) -> bool
     ensures { result ≡ are_items_readable (items_view items.now) }
@@ -95,7 +96,7 @@ fn are_readable(items: &[Value<'_>]) -> bool
     true
 }
 
-/// The same for the values of the members of an object.
+/// Whether `serde_json` reads each number of the members of an object.
 #[cycle(readable)]
 fn have_readable_values(members: &[(&str, Value<'_>)]) -> bool
     ensures { result ≡ are_members_readable (members_view members.now) }

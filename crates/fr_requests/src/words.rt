@@ -69,7 +69,7 @@ fn word_from_a_to_c(text: &[u8]) -> Option<(Word, &[u8])>
     }
 }
 
-/// The same for a word from `dest` to `links`.
+/// A word from `dest` to `links` with a quote behind it, and the text after the quote.
 #[inline(always)]
 fn word_from_d_to_l(text: &[u8]) -> Option<(Word, &[u8])>
     ensures { IfSome result (λ next. text.now ≡ (letters next.0 ++ 34 ∷ []) ++ next.1.now) }
@@ -83,7 +83,7 @@ fn word_from_d_to_l(text: &[u8]) -> Option<(Word, &[u8])>
     }
 }
 
-/// The same for a word from `net` to `ways`.
+/// A word from `net` to `ways` with a quote behind it, and the text after the quote.
 #[inline(always)]
 fn word_from_n_to_w(text: &[u8]) -> Option<(Word, &[u8])>
     ensures { IfSome result (λ next. text.now ≡ (letters next.0 ++ 34 ∷ []) ++ next.1.now) }
