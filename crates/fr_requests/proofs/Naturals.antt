@@ -1,5 +1,6 @@
 -- The numbers of JSON that are natural numbers.
-use Rattle.std.proofs.Common.{Bool, List, None, Some, drop, false, if◌then◌else◌, option_and_then, refl, slice_index, true}
+use Rattle.std.proofs.Common.{Bool, List, None, Some, drop, false, if◌then◌else◌}
+use Rattle.std.proofs.Common.{option_and_then, refl, slice_index, true}
 use Rattle.std.proofs.Common.{ℕ, ◌==◌, ◌≡◌}
 use Rattle.std.specs.Prelude.{Float, ℤ}
 use Rattle.fast_float.specs.Text.{scan}

@@ -15,8 +15,8 @@ use std::fmt::{self, Formatter, Write};
 /// The memory for a longer line is not kept.
 const LONGEST_KEPT: usize = 1 << 16;
 
-/// Reads lines as requests, and keeps some memory from one line to the next. It gives back the memory for a line of more
-/// than 64 KB.
+/// Reads lines as requests, and keeps some memory from one line to the next. It gives back the memory for a line of
+/// more than 64 KB.
 #[derive(Drop)]
 pub struct LineReader {
     // For the first line that is not read by its bytes, and for each such line after it.
