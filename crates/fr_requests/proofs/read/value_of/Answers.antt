@@ -21,11 +21,10 @@ yields_none old new (Some t) none yields = absurd (false≢true (sym none))
 
 pub returns-then-is_some-clause-refused : goal.returns-then-is_some-clause-refused
 returns-then-is_some-clause-refused c _ =
-    let more = yields_one _ _ c.next.result (sym c.if-is_some.ensures) c.next.ensures.value in (
-      refl,
-      more_than_value c.args.text.now (value_view c.in-Ok.value) more.0 _ (ap (value 127) (sym c.in_ok-reader.ensures.ok)
-          ∙ c.in-Ok.ensures.ok ∙ ap (λ ts. Some (value_view c.in-Ok.value, ts)) more.1),
-    )
+    let more = yields_one _ _ c.next.result (sym c.if-is_some.ensures) c.next.ensures.value in
+    let begins = ap (value 127) (sym c.in_ok-reader.ensures.ok) ∙ c.in-Ok.ensures.ok
+    ∙ ap (λ ts. Some (value_view c.in-Ok.value, ts)) more.1 in
+    (refl, more_than_value c.args.text.now (value_view c.in-Ok.value) more.0 _ begins)
 
 pub returns-then-is_readable-clause-ok : goal.returns-then-is_readable-clause-ok
 returns-then-is_readable-clause-ok c =
