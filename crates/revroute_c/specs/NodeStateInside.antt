@@ -1,6 +1,6 @@
 -- The value of a `NodeState` in contracts, and what holds of its fields. For proofs only.
 use Rattle.std.specs.Prelude.{Some, vec_capacity, vec_len, ◌≤◌}
-use Rattle.revroute_c.specs.Machines.{HeldNode}
+use Rattle.revroute_c.specs.NodeStates.{HeldNode}
 use Rattle.revroute_c.specs.declared.node_state.NodeState.TheInside.{Inside}
 
 abbrev pub kept_in : Inside → HeldNode

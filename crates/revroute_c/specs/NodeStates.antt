@@ -7,5 +7,5 @@ abbrev pub HeldNode : Type 0
 HeldNode = Option Node
 
 -- the value of a null handle
-abbrev pub no_machine : HeldNode
-no_machine = None
+abbrev pub no_node : HeldNode
+no_node = None

@@ -16,8 +16,8 @@ pub record Held : Type 0 where
   pub begun : List ℕ
 
 -- the value of a null handle
-abbrev pub no_engine : Held
-no_engine = record { session = None; rerouted = []; table = None; ways = None; pushes = no_pushes; begun = [] }
+abbrev pub no_session : Held
+no_session = record { session = None; rerouted = []; table = None; ways = None; pushes = no_pushes; begun = [] }
 
 -- the value of a published session together with the bytes of a line that has begun
 abbrev pub held : Published → List ℕ → Held
