@@ -23,6 +23,7 @@ mod change;
 mod changed_nodes;
 mod fault;
 mod form;
+mod forwarding;
 mod hops;
 mod json;
 mod kept_distances;

@@ -143,13 +143,15 @@ impl Session {
             plan,
             gate,
         };
-        Settler::new(
-            alloc,
-            &|net, dest, from, turns|
-                requires { CanBegin net.now dest from turns }
-            { settled_counts(&crew, net, dest, from, turns) },
-        )
-        .text_for_line(self, line, &mut ChangedNodes::Unlisted)
+        // As text, an answer does not depend on the number of its line.
+        let line = Line {
+            number: 0,
+            bytes: line,
+        };
+        match self.answer_line_in(&crew, Form::Text, line, &mut AnswerSpace::new(alloc))? {
+            Some(answer) => Ok(Some(answer.text)),
+            None => Ok(None),
+        }
     }
 
     /// Answers a line as [`answer_line`](Self::answer_line) does, on the calling thread. It starts no thread, does not
