@@ -2,7 +2,7 @@ use Rattle.std.proofs.Common.{subst, sym}
 use Rattle.fr_bytes.specs.Streams.{traffic_of}
 use Rattle.fr_command.specs.Programs.{FailsTask, form_of}
 use Rattle.fr_command.specs.declared.programs.Failure.TheVariants.{Stopped, StoppedServing}
-use Rattle.fr_command.proofs.programs.perform.Goals as goal
+use Rattle.fr_command.proofs.programs.perform_task.Goals as goal
 
 pub returns-in-Err-clause-failed : goal.returns-in-Err-clause-failed
 returns-in-Err-clause-failed g c =
