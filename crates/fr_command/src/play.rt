@@ -12,7 +12,7 @@ ghost use Rattle.fr_cli.specs.Draws.{drawn};
 ghost use Rattle.fr_command.specs.Faults.{IsDrawnPlayFault};
 ghost use Rattle.fr_command.specs.Plays.{targets_for, IsRefusal, IsPlayText, IsPlayOf, IsPlayOutput, WritesPlay};
 
-use crate::entries::{text_of_play, push_count, targets_of};
+use crate::entries::{push_count, targets_of, text_of_play};
 use fr_bytes::{Lines, RunFault, read_input, write_out};
 use fr_cli::Draw;
 use fr_core::{Entry, play};
