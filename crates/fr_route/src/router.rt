@@ -194,23 +194,8 @@ impl<'a, F: Fn(&Net, u32, Option<&[u32]>, Turns) -> Result<Turns, CrewFault>> Se
         let distances = &mut router.forwarding.distances;
         begin_telling(told, distances, &router.net, router.dest, revision.edits)?;
         let from = movable.nodes();
-        let dest = revision.dest;
         let spare = &mut router.spare;
-        let outcome = router.net.edit_if(
-            self.alloc,
-            revision.edits,
-            |net|
-                requires settles { Settles F.pre F.post self.now.settle.now }
-                requires from { (dest < net.now.nodes) × HoldsSinks net.now dest from.now }
-                ensures outcome { IfOk result (IsOutcome net.entry.now dest) }
-                ensures fault { IfErr result
-                    (IsRoundFault (NeverStarts F.post self.entry.now.settle.now) net.entry.now dest) }
-            {
-                net.network_law();
-                let turns = spare.take(self.alloc, net.nodes())?;
-                self.outcome(net, dest, from, turns)
-            },
-        )?;
+        let outcome = self.edited_outcome(&mut router.net, spare, revision, from)?;
         let moved = Moved {
             edits: revision.edits,
             nodes: from,
@@ -219,7 +204,7 @@ impl<'a, F: Fn(&Net, u32, Option<&[u32]>, Turns) -> Result<Turns, CrewFault>> Se
             .forwarding
             .follow(&mut router.net, &outcome, &moved, told);
         keep_turns(&mut router.turns, &mut router.spare, outcome.turns);
-        router.dest = dest;
+        router.dest = revision.dest;
         router.report = outcome.report;
         Ok(outcome.report)
     }

@@ -1,8 +1,7 @@
-use Rattle.std.proofs.Common.{◌≡◌, ◌≢◌, ◌∙◌, ◌<◌, ◌≤◌, List, arith, length, refl, rules}
+use Rattle.std.proofs.Common.{◌≡◌, ◌∙◌, ◌<◌, List, refl, rules}
 use Rattle.std.proofs.Common.{subst, sym, ℕ}
 use Rattle.std.proofs.lemmas.Result.{err_from_is_err_and}
 use Rattle.fr_graph.specs.Batches.{AreMade}
-use Rattle.fr_graph.specs.Limits.{most_edits}
 use Rattle.fr_graph.specs.Network.{Network, net_of}
 use Rattle.fr_nearest.specs.Distances.{IsRenewed}
 use Rattle.fr_graph.specs.Counts.{links_at}
@@ -11,10 +10,6 @@ use Rattle.fr_route.specs.WayNotes.{LeadsOn}
 use Rattle.fr_route.specs.WayPushes.{AreWayChanges}
 use Rattle.fr_route.proofs.WaysTold.{pushes_same}
 use Rattle.fr_crew.specs.Settlements.{HoldsSinks}
-use Rattle.fr_graph.specs.declared.fault.NotEdited.{NotEdited}
-use Rattle.fr_graph.specs.declared.fault.NotEdited.TheVariants.{Fault, Refused}
-use Rattle.fr_route.specs.Changes.{IsOpenFault, IsStill}
-use Rattle.fr_route.specs.Faults.{of_not_edited}
 use Rattle.fr_route.specs.Listing.{HasPlaces, nodes_told, ways_told}
 use Rattle.fr_crew.specs.Settlements.{IsCounted}
 use Rattle.fr_route.specs.Forwarding.{CanTell}
@@ -26,10 +21,8 @@ use Rattle.fr_route.specs.Routes.{AreHops}
 use Rattle.fr_route.specs.RouterInside.{state_of}
 use Rattle.fr_route.specs.States.{State, net_at}
 use Rattle.fr_route.specs.Changes.{IsPlaced}
-use Rattle.fr_route.specs.declared.fault.RouteFault.{RouteFault}
-use Rattle.fr_route.specs.declared.fault.RouteFault.TheVariants.{Start}
 use Rattle.fr_route.proofs.CutNodes.{ended}
-use Rattle.fr_route.proofs.Changing.{made_nodes, refused_fault, round_fault}
+use Rattle.fr_route.proofs.Changing.{made_nodes}
 use Rattle.fr_route.proofs.Inside.{sound_after, sound_again}
 use Rattle.fr_route.proofs.Moving.{leads_on, made_net, movable_sinks, old_distances, unmoved_hops}
 use Rattle.fr_route.proofs.Noting.{listing_has}
@@ -54,32 +47,23 @@ in_range g c = subst (λ (now : State). c.args.revision.now.dest < now.nodes) (s
 
 -- the edits are made, and the outcome is that of the resulting network
 edits_made : (g : Over) (c : In_ok-outcome g)
-    → AreMade c.router.inside.net c.args.revision.now.edits.now c.edit_if.new.self
-edits_made g c = c.in_ok-outcome.ensures.ok.0
+    → AreMade c.router.inside.net c.args.revision.now.edits.now c.edited_outcome.new.net
+edits_made g c = c.in_ok-outcome.ensures.made.0
 
 outcome_is : (g : Over) (c : In_ok-outcome g)
-    → IsOutcome c.edit_if.new.self c.args.revision.now.dest c.in_ok-outcome.outcome
-outcome_is g c =
-    let ok = c.in_ok-outcome.ensures.ok in
-    subst (λ (m : Network). IsOutcome m c.args.revision.now.dest c.in_ok-outcome.outcome) {y = c.edit_if.new.self}
-    ok.1.2 ok.1.1.0
+    → IsOutcome c.edited_outcome.new.net c.args.revision.now.dest c.in_ok-outcome.outcome
+outcome_is g c = c.in_ok-outcome.ensures.made.1
 
-pub edit_if-requires : goal.edit_if-requires
-edit_if-requires g c = record {
-  callable = λ made is.
-      let at = goal.at.edit_if-requires g c in
-      let s : State = state_of c.router.inside in
-      let below = in_range g at.After-router in
-      let nodes = made_nodes c.router.inside.net c.args.revision.now.edits.now made.now is in (
-        c.requires.settles,
-        (
-          omega (arith, below, nodes),
-          subst (HoldsSinks made.now c.args.revision.now.dest) (sym (from_movable g at.After-nodes-from))
-              (movable_sinks s c.router.invariant.round c.args.revision.now.edits.now made.now c.args.revision.now.dest
-              below is),
-        ),
-      );
-}
+pub edited_outcome-requires-clause-few : goal.edited_outcome-requires-clause-few
+edited_outcome-requires-clause-few g c =
+    (in_range g (goal.at.edited_outcome-requires-clause-few g c).After-router, c.in_ok-movable.ensures.few)
+
+pub edited_outcome-requires-clause-from : goal.edited_outcome-requires-clause-from
+edited_outcome-requires-clause-from g c = λ made is.
+    let at = goal.at.edited_outcome-requires-clause-from g c in
+    subst (HoldsSinks made c.args.revision.now.dest) (sym (from_movable g at.After-nodes-from))
+    (movable_sinks (state_of c.router.inside) c.router.invariant.round c.args.revision.now.edits.now made
+    c.args.revision.now.dest (in_range g at.After-router) is)
 
 pub returns-in_err-movable : goal.returns-in_err-movable
 returns-in_err-movable g c =
@@ -123,32 +107,6 @@ returns-in_err-begin_telling g c =
       no_start = λ _ e. absurd cc;
     })
 
--- why the edits are not made, or why there is no round on the network that they make
-not_made : (g : Over) (c : In_err-outcome g) → c.args.revision.now.dest < (state_of c.router.inside).nodes
-    → length c.args.revision.now.edits.now ≤ most_edits
-    → state_of c.router.inside ≡ c.args.router.now
-    → IsPlaced c.args.router.now c.args.revision.now.edits.now c.args.revision.now.dest
-    (of_not_edited c.in_err-outcome.field-0.0)
-not_made g c below few same =
-    let s : State = state_of c.router.inside in
-    let edits = c.args.revision.now.edits.now in
-    let d = c.args.revision.now.dest in
-    let reason = c.in_err-outcome.field-0.0 in
-    let placed : (r : NotEdited RouteFault) → reason ≡ r → IsPlaced s edits d (of_not_edited r) =
-    λ r. elim r as
-    (λ (r : NotEdited RouteFault). c.in_err-outcome.field-0.0 ≡ r → IsPlaced s edits d (of_not_edited r)) [
-      | Refused refused ↦ λ is.
-          refused_fault s edits d refused few (rw is at c.in_err-outcome.ensures.refused)
-          (rw is at c.in_err-outcome.ensures.names)
-      | Fault fault ↦ λ is.
-          let why = rw is at c.in_err-outcome.ensures.refused in
-          let told = why.1.1.1.1.1 in
-          round_fault s edits why.0 d 0 fault below why.1.1.0 why.1.0
-          (subst (λ (m : Network). IsOpenFault m.nodes d fault) {y = why.0} why.1.1.1.2 told.why)
-          (subst (λ (m : Network). IsStill m d → fault ≢ Start) {y = why.0} why.1.1.1.2 told.still)
-    ] in
-    subst (λ (now : State). IsPlaced now edits d (of_not_edited reason)) same (placed reason refl)
-
 pub returns-in_err-outcome : goal.returns-in_err-outcome
 returns-in_err-outcome g c =
     let at = goal.at.returns-in_err-outcome g c in
@@ -159,32 +117,34 @@ returns-in_err-outcome g c =
       rerouted = tt;
       ways = tt;
       asks = c.begin_telling.ensures.list.ways.0;
-      fault = not_made g at.In_err-outcome (in_range g at.After-router) c.in_ok-movable.ensures.few
-          (now_is g at.After-router);
+      fault =
+          subst (λ (now : State). IsPlaced now c.args.revision.now.edits.now c.args.revision.now.dest
+          c.in_err-outcome.field-0.0) (now_is g at.After-router)
+          (c.in_err-outcome.ensures.fault c.router.inside.dest c.router.inside.turns);
       unchanged = search rules;
       untold = c.begin_telling.ensures.list.nodes;
       untold_ways = c.begin_telling.ensures.same;
-      no_start = search rules;
+      no_start = c.in_err-outcome.ensures.no_start;
     })
 
 pub invariant_of-router-in_err-outcome : goal.invariant_of-router-in_err-outcome
 invariant_of-router-in_err-outcome g c =
-    sound_again c.router.inside _ c.begin_telling.new.distances c.edit_if.new.self c.router.invariant
+    sound_again c.router.inside _ c.begin_telling.new.distances c.edited_outcome.new.net c.router.invariant
     (c.begin_telling.ensures.keeps c.router.inside.turns) c.in_err-outcome.ensures.unchanged
 
 -- the outcome is for the requested destination
 same_dest : (g : Over) (c : In_ok-outcome g) → c.in_ok-outcome.outcome.dest ≡ c.args.revision.now.dest
 same_dest g c = (outcome_is g c).dest
 
-nodes_made : (g : Over) (c : In_ok-outcome g) → c.edit_if.new.self.nodes ≡ c.router.inside.net.nodes
+nodes_made : (g : Over) (c : In_ok-outcome g) → c.edited_outcome.new.net.nodes ≡ c.router.inside.net.nodes
 nodes_made g c =
-    made_nodes c.router.inside.net c.args.revision.now.edits.now c.edit_if.new.self (edits_made g c)
+    made_nodes c.router.inside.net c.args.revision.now.edits.now c.edited_outcome.new.net (edits_made g c)
 
 pub follow-requires-clause-follows : goal.follow-requires-clause-follows
 follow-requires-clause-follows g c =
     let at = goal.at.follow-requires-clause-follows g c in
     let s : State = state_of c.router.inside in
-    let net : Network = c.edit_if.new.self in
+    let net : Network = c.edited_outcome.new.net in
     let d = c.args.revision.now.dest in
     let edits = c.args.revision.now.edits.now in
     let counts : List ℕ = c.in_ok-outcome.outcome.turns in
@@ -213,11 +173,11 @@ follow-requires-clause-follows g c =
 
 -- the list and the notes are ready
 can_tell : (g : Over) (c : In_ok-outcome g)
-    → CanTell (state_of c.router.inside) c.edit_if.new.self c.in_ok-outcome.outcome c.args.revision.now.edits.now
+    → CanTell (state_of c.router.inside) c.edited_outcome.new.net c.in_ok-outcome.outcome c.args.revision.now.edits.now
     (record c.router.inside.forwarding { distances = c.begin_telling.new.distances }) c.begin_telling.new.told
 can_tell g c =
     let s : State = state_of c.router.inside in
-    let net : Network = c.edit_if.new.self in
+    let net : Network = c.edited_outcome.new.net in
     let d = c.args.revision.now.dest in
     let edits = c.args.revision.now.edits.now in
     let outcome = c.in_ok-outcome.outcome in
@@ -247,7 +207,7 @@ follow-requires-clause-tells g c =
 pub invariant_of-router-2 : goal.invariant_of-router-2
 invariant_of-router-2 g c =
     let at = goal.at.invariant_of-router-2 g c in
-    let net : Network = c.edit_if.new.self in
+    let net : Network = c.edited_outcome.new.net in
     let counts : List ℕ = c.in_ok-outcome.outcome.turns in
     let outcome = outcome_is g at.In_ok-outcome in
     let followed = c.follow.ensures.followed in
@@ -269,7 +229,7 @@ returns g c =
     let s : State = state_of c.router.inside in
     let d = c.args.revision.now.dest in
     let edits = c.args.revision.now.edits.now in
-    let net : Network = c.edit_if.new.self in
+    let net : Network = c.edited_outcome.new.net in
     let counts : List ℕ = c.in_ok-outcome.outcome.turns in
     let after : State = settled_state net d counts in
     let made = edits_made g at.In_ok-outcome in
