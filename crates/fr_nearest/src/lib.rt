@@ -12,6 +12,7 @@
 #![tactic(auto)]
 
 mod affected;
+mod all_ways;
 mod distance_changes;
 mod distances;
 pub mod laws;
@@ -20,5 +21,6 @@ mod update;
 mod ways;
 
 pub use affected::Affected;
+pub use all_ways::AllWays;
 pub use distances::Distances;
 pub use update::Touched;

@@ -22,7 +22,7 @@ pub(crate) fn way_rank(distance: u16, w: u16) -> u32
 }
 
 /// Whether a link that a node sees so points away from it.
-fn points_away(first: First) -> bool
+pub(crate) fn points_away(first: First) -> bool
     ensures { IsTrue result ↔ (first ≡ Outward) }
 {
     match first {
@@ -109,7 +109,7 @@ fn rank_ways_before(
 }
 
 /// Replaces each rank by the number of its node.
-fn ranks_to_numbers(ranks: &mut [u32])
+pub(crate) fn ranks_to_numbers(ranks: &mut [u32])
     ensures { ranks.new ≡ map number_of ranks.old }
 {
     for rank in ranks.iter_mut() {

@@ -1,0 +1,119 @@
+//! The ways of all nodes, listed in one pass over the nodes in order of distance.
+
+ghost use Rattle.std.specs.Prelude.{◌≡◌, ℕ, ◌<◌, ◌≤◌, ◌+◌, List, IfOk, IsTrue, length, slice_index, slice_range, slice_set};
+ghost use Rattle.fr_graph.specs.Limits.{most_nodes};
+ghost use Rattle.fr_nearest.specs.Distances.{IsMeasureOf};
+ghost use Rattle.fr_nearest.specs.Order.{AreInOrder, AreRooms, HoldWays, IsListing};
+
+use crate::distances::{Distances, NONE};
+use crate::ways::{points_away, ranks_to_numbers, way_rank};
+use fr_graph::Net;
+use std::alloc::{AllocError, Global};
+
+/// The ways of each node of a network, nearest first, as [`Distances::all_ways`] lists them.
+#[derive(Debug, Drop)]
+pub struct AllWays {
+    /// Where the ways of each node begin in `list`. There is room for all its neighbours.
+    pub starts: Vec<usize>,
+    /// Where the ways of each node end.
+    pub ends: Vec<usize>,
+    /// The ways of the nodes, each list in its room.
+    pub list: Vec<u32>,
+}
+
+impl AllWays {
+    /// The ways of node `x`. O(1).
+    pub fn row(&self, x: u32) -> &[u32]
+        requires start { x < length self.now.starts.items }
+        requires end { x < length self.now.ends.items }
+        requires rise { slice_index self.now.starts.items x ≤ slice_index self.now.ends.items x }
+        requires room { slice_index self.now.ends.items x ≤ length self.now.list.items }
+        ensures { result.now ≡ slice_range self.now.list.items (slice_index self.now.starts.items x)
+            (slice_index self.now.ends.items x) }
+    {
+        &self.list[self.starts[x as usize]..self.ends[x as usize]]
+    }
+}
+
+/// Lists the nodes that have a distance, nearest first, and those of the same distance by number.
+fn nodes_in_order(alloc: Global, distances: &[u16]) -> Result<Vec<u32>, AllocError>
+    requires { length distances.now ≤ most_nodes }
+    ensures { IfOk result (λ nodes. AreInOrder distances.now nodes.items) }
+{
+    let mut ranks = Vec::with_capacity(alloc, distances.len())?;
+    for x in 0..distances.len() {
+        let distance = distances[x];
+        if distance != NONE {
+            ranks.push(way_rank(distance, x as u16))?;
+        }
+    }
+    ranks.sort_unstable();
+    ranks_to_numbers(&mut ranks);
+    Ok(ranks)
+}
+
+/// Where the room of each node begins, if each has room for all its neighbours, and how much room there is in all.
+fn neighbour_rooms(alloc: Global, net: &Net) -> Result<(Vec<usize>, usize), AllocError>
+    ensures { IfOk result (λ made. AreRooms net.now net.now.nodes made.0.items made.1) }
+{
+    net.network_law();
+    let mut starts = Vec::with_capacity(alloc, net.nodes() as usize)?;
+    let mut room = 0;
+    for x in 0..net.nodes() {
+        starts.push(room)?;
+        room += net.degree(x) as usize;
+    }
+    Ok((starts, room))
+}
+
+/// Appends `w` to the list of node `y`, if it is a way.
+fn append_if_way(ends: &mut [usize], list: &mut [u32], y: usize, w: u32, is_way: bool)
+    requires node { y < length ends.old }
+    requires room { slice_index ends.old y < length list.old }
+    ensures list { list.new ≡ slice_set list.old (slice_index ends.old y) w }
+    ensures way { IsTrue is_way → ends.new ≡ slice_set ends.old y (slice_index ends.old y + 1) }
+    ensures other { ¬ IsTrue is_way → ends.new ≡ ends.old }
+{
+    // Whether this is a way is hard to predict, and a store costs less than a branch that was predicted wrongly.
+    let end = ends[y];
+    list[end] = w;
+    ends[y] = if is_way { end + 1 } else { end };
+}
+
+/// Appends the node at the place `at` of the order to the list of each node with a link to it.
+fn append_to_neighbours(net: &Net, order: &[u32], at: usize, ends: &mut [usize], list: &mut [u32])
+    requires left { at < length order.now }
+    requires listing { (table starts : List ℕ) × IsListing net.now table order.now starts ends.old list.old at }
+    ensures listing { (table starts : List ℕ) → IsListing net.now table order.now starts ends.old list.old at
+        → IsListing net.now table order.now starts ends.new list.new (at + 1) }
+{
+    net.network_law();
+    let w = order[at];
+    let row = net.row(w);
+    for (y, first) in row {
+        let is_way = !points_away(*first);
+        append_if_way(ends, list, *y as usize, w, is_way);
+    }
+}
+
+impl Distances {
+    /// Lists the ways of all nodes of the network that these are the distances of, each list as [`ways`](Self::ways)
+    /// lists it. Goes through the nodes in order of distance, and appends each of them to the lists of the nodes with a
+    /// link to it. So each list is in order, and need not be sorted.
+    ///
+    /// Fails with `AllocError` if an allocation is refused. O(m + n log n).
+    pub fn all_ways(&self, alloc: Global, net: &Net) -> Result<AllWays, AllocError>
+        requires { IsMeasureOf net.now self.now }
+        ensures { IfOk result (HoldWays net.now self.now.dest) }
+    {
+        net.network_law();
+        let order = nodes_in_order(alloc, self.numbers())?;
+        let (starts, room) = neighbour_rooms(alloc, net)?;
+        let mut ends = starts.to_vec(alloc)?;
+        let mut list = vec![in alloc; 0; room]?;
+        for at in 0..order.len() {
+            append_to_neighbours(net, &order, at, &mut ends, &mut list);
+        }
+        Ok(AllWays { starts, ends, list })
+    }
+}
