@@ -303,27 +303,6 @@ rank_back table list rank low (k, l, is) =
     ap (λ (r : ℕ). rank_of table (number_of r)) from
     ∙ (ap (rank_of table) (number_back table w (low w (Contains-get_or list k 0 inside))) ∙ sym from)
 
--- sorted ranks, as the numbers of their nodes
-pub numbers_sorted : (table list ranks sorted : List ℕ) → ((w : ℕ) → Contains list w → w < most_nodes)
-    → ranks ≡ map (rank_of table) list → IsPermutation ranks sorted → IsNonDecreasingBy (λ (r : ℕ). r) sorted
-    → IsPermutation list (map number_of sorted) × IsNonDecreasingBy (rank_of table) (map number_of sorted)
-numbers_sorted table list ranks sorted low is same rises = (
-  subst (λ (xs : List ℕ). IsPermutation xs (map number_of sorted))
-      (ap (map number_of) is ∙ numbers_back table list low) (IsPermutation-map number_of ranks sorted same),
-  λ i j e lt inside.
-      let here : j < length sorted = omega (arith, inside, length-map sorted number_of) in
-      rw (rank_at i e (omega (arith, lt, here)), rank_at j e here) (rises i j 0 lt here),
-)
-  where
-    rank_at : (k e : ℕ) → k < length sorted → rank_of table (get_or (map number_of sorted) k e) ≡ slice_index sorted k
-    rank_at k e inside =
-        let rank = slice_index sorted k in
-        let there : Contains ranks rank =
-        Contains-permutation sorted ranks rank (IsPermutation-sym ranks sorted same)
-        (Contains-get_or sorted k 0 inside) in
-        ap (rank_of table) (get_or-map number_of sorted k 0 e inside)
-        ∙ rank_back table list rank low (subst (λ (xs : List ℕ). Contains xs rank) is there)
-
 module _ {n : ℕ} {links : List (ℕ × ℕ)} {d x : ℕ} {table : List ℕ} (below : (w : ℕ) → Points links x w → w
     < n) (are : AreDistances n links d table) where
   -- the nodes with a distance to which links point are the ways
@@ -380,9 +359,22 @@ module _ {n : ℕ} {links : List (ℕ × ℕ)} {d x : ℕ} {table : List ℕ} (b
       → IsPermutation ranks sorted → IsNonDecreasingBy (λ (r : ℕ). r) sorted
       → AreWays links d x (map number_of sorted)
   ways_of_ranks {ranks} {sorted} few (list, l, is) same rises =
-      let numbers = numbers_sorted table list ranks sorted (λ w h. omega (arith, few, below w ((l.just w).0 h).0)) is same
-      rises in
-      ways_of few l numbers.0 numbers.1
+      let low : (w : ℕ) → Contains list w → w < most_nodes = λ w h.
+      omega (arith, few, below w ((l.just w).0 h).0) in
+      let numbers : IsPermutation list (map number_of sorted) =
+      subst (λ (xs : List ℕ). IsPermutation xs (map number_of sorted))
+      (ap (map number_of) is ∙ numbers_back table list low) (IsPermutation-map number_of ranks sorted same) in
+      let rank_at : (k e : ℕ) → k < length sorted
+      → rank_of table (get_or (map number_of sorted) k e) ≡ slice_index sorted k = λ k e inside.
+      let rank = slice_index sorted k in
+      let there : Contains ranks rank =
+      Contains-permutation sorted ranks rank (IsPermutation-sym ranks sorted same)
+      (Contains-get_or sorted k 0 inside) in
+      ap (rank_of table) (get_or-map number_of sorted k 0 e inside)
+      ∙ rank_back table list rank low (subst (λ (xs : List ℕ). Contains xs rank) is there) in
+      ways_of few l numbers (λ i j e lt inside.
+      let here : j < length sorted = omega (arith, inside, length-map sorted number_of) in
+      rw (rank_at i e (omega (arith, lt, here)), rank_at j e here) (rises i j 0 lt here))
 
   pub ways_sorted : {count : ℕ} {ranks after : List ℕ} → n ≤ most_nodes → AreRanked links table x (take count ranks)
       → AreSortedTo count ranks after

@@ -1,12 +1,12 @@
 //! The ways of all nodes, listed in one pass over the nodes in order of distance.
 
-ghost use Rattle.std.specs.Prelude.{◌≡◌, ℕ, ◌<◌, ◌≤◌, ◌+◌, List, IfOk, IsTrue, length, slice_index, slice_range, slice_set};
-ghost use Rattle.fr_graph.specs.Limits.{most_nodes};
+ghost use Rattle.std.specs.Prelude.{◌≡◌, ℕ, ◌<◌, ◌≤◌, ◌+◌, List, IfOk, length, slice_index, slice_range};
 ghost use Rattle.fr_nearest.specs.Distances.{IsMeasureOf};
-ghost use Rattle.fr_nearest.specs.Order.{AreInOrder, AreRooms, HoldWays, IsListing};
+ghost use Rattle.fr_nearest.specs.Order.{AreRooms, HoldWays, IsListing, degree};
 
-use crate::distances::{Distances, NONE};
-use crate::ways::{points_away, ranks_to_numbers, way_rank};
+use crate::distances::Distances;
+use crate::order::{append_if, nodes_in_order};
+use crate::ways::points_away;
 use fr_graph::Net;
 use std::alloc::{AllocError, Global};
 
@@ -35,26 +35,9 @@ impl AllWays {
     }
 }
 
-/// Lists the nodes that have a distance, nearest first, and those of the same distance by number.
-fn nodes_in_order(alloc: Global, distances: &[u16]) -> Result<Vec<u32>, AllocError>
-    requires { length distances.now ≤ most_nodes }
-    ensures { IfOk result (λ nodes. AreInOrder distances.now nodes.items) }
-{
-    let mut ranks = Vec::with_capacity(alloc, distances.len())?;
-    for x in 0..distances.len() {
-        let distance = distances[x];
-        if distance != NONE {
-            ranks.push(way_rank(distance, x as u16))?;
-        }
-    }
-    ranks.sort_unstable();
-    ranks_to_numbers(&mut ranks);
-    Ok(ranks)
-}
-
 /// Where the room of each node begins, if each has room for all its neighbours, and how much room there is in all.
 fn neighbour_rooms(alloc: Global, net: &Net) -> Result<(Vec<usize>, usize), AllocError>
-    ensures { IfOk result (λ made. AreRooms net.now net.now.nodes made.0.items made.1) }
+    ensures { IfOk result (λ made. AreRooms (degree net.now) net.now.nodes made.0.items made.1) }
 {
     net.network_law();
     let mut starts = Vec::with_capacity(alloc, net.nodes() as usize)?;
@@ -64,20 +47,6 @@ fn neighbour_rooms(alloc: Global, net: &Net) -> Result<(Vec<usize>, usize), Allo
         room += net.degree(x) as usize;
     }
     Ok((starts, room))
-}
-
-/// Appends `w` to the list of node `y`, if it is a way.
-fn append_if_way(ends: &mut [usize], list: &mut [u32], y: usize, w: u32, is_way: bool)
-    requires node { y < length ends.old }
-    requires room { slice_index ends.old y < length list.old }
-    ensures list { list.new ≡ slice_set list.old (slice_index ends.old y) w }
-    ensures way { IsTrue is_way → ends.new ≡ slice_set ends.old y (slice_index ends.old y + 1) }
-    ensures other { ¬ IsTrue is_way → ends.new ≡ ends.old }
-{
-    // Whether this is a way is hard to predict, and a store costs less than a branch that was predicted wrongly.
-    let end = ends[y];
-    list[end] = w;
-    ends[y] = if is_way { end + 1 } else { end };
 }
 
 /// Appends the node at the place `at` of the order to the list of each node with a link to it.
@@ -92,7 +61,7 @@ fn append_to_neighbours(net: &Net, order: &[u32], at: usize, ends: &mut [usize],
     let row = net.row(w);
     for (y, first) in row {
         let is_way = !points_away(*first);
-        append_if_way(ends, list, *y as usize, w, is_way);
+        append_if(ends, list, *y as usize, w, is_way);
     }
 }
 
@@ -101,7 +70,7 @@ impl Distances {
     /// lists it. Goes through the nodes in order of distance, and appends each of them to the lists of the nodes with a
     /// link to it. So each list is in order, and need not be sorted.
     ///
-    /// Fails with `AllocError` if an allocation is refused. O(m + n log n).
+    /// Fails with `AllocError` if an allocation is refused. O(n + m).
     pub fn all_ways(&self, alloc: Global, net: &Net) -> Result<AllWays, AllocError>
         requires { IsMeasureOf net.now self.now }
         ensures { IfOk result (HoldWays net.now self.now.dest) }

@@ -16,6 +16,7 @@ mod all_ways;
 mod distance_changes;
 mod distances;
 pub mod laws;
+mod order;
 mod search;
 mod update;
 mod ways;

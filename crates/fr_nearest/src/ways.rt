@@ -109,7 +109,7 @@ fn rank_ways_before(
 }
 
 /// Replaces each rank by the number of its node.
-pub(crate) fn ranks_to_numbers(ranks: &mut [u32])
+fn ranks_to_numbers(ranks: &mut [u32])
     ensures { ranks.new ≡ map number_of ranks.old }
 {
     for rank in ranks.iter_mut() {

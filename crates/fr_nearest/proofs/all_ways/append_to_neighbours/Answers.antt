@@ -11,14 +11,14 @@ loop-y-init c = λ table starts listing.
     filling_as (none_read c.network_law.ensures.is_net table c.args.order.now starts c.args.at c.requires.left
     c.row-row.result.now c.row-row.ensures) listing.filling
 
-pub append_if_way-requires-clause-node : goal.append_if_way-requires-clause-node
-append_if_way-requires-clause-node c =
+pub append_if-requires-clause-number : goal.append_if-requires-clause-number
+append_if-requires-clause-number c =
     let (table, starts, listing) = c.requires.listing in
     entry_inside c.args.net.now (slice_index c.args.order.now c.args.at) c.row-row.result.now c.loop-y.y-index
     c.loop-y.ends c.row-row.ensures c.loop-y-test.true (c.loop-y.invariant table starts listing).one_each
 
-pub append_if_way-requires-clause-room : goal.append_if_way-requires-clause-room
-append_if_way-requires-clause-room c =
+pub append_if-requires-clause-room : goal.append_if-requires-clause-room
+append_if-requires-clause-room c =
     let net = c.args.net.now in
     let (table, starts, listing) = c.requires.listing in
     let filling = c.loop-y.invariant table starts listing in
@@ -40,13 +40,14 @@ loop-y-preserved c = λ table starts listing.
     let place = c.loop-y.y-index in
     let inside = c.loop-y-test.true in
     let filling = c.loop-y.invariant table starts listing in
-    let low = entry_below net.nodes net.links (slice_index order at) entries place (0, Outward) c.row-row.ensures inside in
-    let put = c.append_if_way.ensures in
+    let low = entry_below net.nodes net.links (slice_index order at) entries place (0, Outward) c.row-row.ensures
+    inside in
+    let put = c.append_if.ensures in
     elim (cases_Bool c.points_away-is_way.result) [
       | inl t ↦ rw (put.list, put.other (rw t (λ e. false≢true e)))
-          (step_other is_net table order starts at c.requires.left entries c.row-row.ensures place inside listing filling
-          low (c.points_away-is_way.ensures.0 t))
-      | inr f ↦ rw (put.list, put.way (rw f refl))
+          (step_other is_net table order starts at c.requires.left entries c.row-row.ensures place inside listing
+          filling low (c.points_away-is_way.ensures.0 t))
+      | inr f ↦ rw (put.list, put.there (rw f refl))
           (step_way is_net table order starts at c.requires.left entries c.row-row.ensures place inside listing filling
           low (λ out. false≢true (sym f ∙ c.points_away-is_way.ensures.1 out)))
     ]

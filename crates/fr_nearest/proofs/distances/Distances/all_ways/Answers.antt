@@ -31,8 +31,14 @@ loop-at-preserved c =
     let ends_are : (with_items c.loop-at.ends ends).items ≡ ends = with_items_is c.loop-at.ends ends
     (omega (arith, c.append_to_neighbours.auto.ends, ap length c.deref_mut.ensures.value, c.loop-at.ends.ok.0)) in
     let list_is : (with_items c.loop-at.list list).items ≡ list = with_items_is c.loop-at.list list
-    (omega (arith, c.append_to_neighbours.auto.list, ap length c.deref_mut-in-loop-at.ensures.value, c.loop-at.list.ok.0)) in
-    subst (λ (es : List ℕ). IsListing net table order starts es (with_items c.loop-at.list list).items next) (sym ends_are)
+    (omega (
+      arith,
+      c.append_to_neighbours.auto.list,
+      ap length c.deref_mut-in-loop-at.ensures.value,
+      c.loop-at.list.ok.0,
+    )) in
+    subst (λ (es : List ℕ). IsListing net table order starts es (with_items c.loop-at.list list).items next)
+    (sym ends_are)
     (subst (λ (xs : List ℕ). IsListing net table order starts ends xs next) (sym list_is) now)
 
 pub returns : goal.returns
