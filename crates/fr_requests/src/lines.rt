@@ -15,20 +15,15 @@ use std::fmt::{self, Formatter, Write};
 /// The memory for a longer line is not kept.
 const LONGEST_KEPT: usize = 1 << 16;
 
-/// Reads lines as requests, and keeps some memory from one line to the next. It gives back the memory for a line of
-/// more than 64 KB.
-#[derive(Drop)]
+/// Reads lines as requests, and keeps some memory from one line to the next. A new reader, by `LineReader::default`,
+/// has none. It gives back the memory for a line of more than 64 KB.
+#[derive(Default, Drop)]
 pub struct LineReader {
     // For the first line that is not read by its bytes, and for each such line after it.
     scratch: Option<Box<Scratch>>,
 }
 
 impl LineReader {
-    /// A reader without memory. It allocates nothing. O(1).
-    pub fn new() -> LineReader {
-        LineReader { scratch: None }
-    }
-
     /// Returns the request of a line. White space is allowed wherever JSON allows it. Fails with `NotJson` or
     /// `NotRequest` if the line is not a request, as [`LineFault`] says, and with `Memory` if an allocation is refused.
     /// The line alone determines every fault except `Memory`.
@@ -91,5 +86,5 @@ pub fn read_line(alloc: Global, line: &[u8]) -> Result<Request, LineFault>
     ensures ok { IfOk result (λ request. reading line.now ≡ Ok (plain request)) }
     ensures refused { IfErr result (λ fault. fault ≢ Memory → reading line.now ≡ Err fault) }
 {
-    LineReader::new().read(alloc, line)
+    LineReader::default().read(alloc, line)
 }

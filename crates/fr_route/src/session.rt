@@ -65,7 +65,7 @@ impl Session {
     {
         Session {
             router: None,
-            reader: LineReader::new(),
+            reader: LineReader::default(),
         }
     }
 
