@@ -22,12 +22,13 @@ pub struct AllWays {
 }
 
 impl AllWays {
-    /// The ways of node `x`. O(1).
+    /// The ways of node `x`, which must be in the network. O(1).
     pub fn row(&self, x: u32) -> &[u32]
         requires start { x < length self.now.starts.items }
         requires end { x < length self.now.ends.items }
         requires rise { slice_index self.now.starts.items x ≤ slice_index self.now.ends.items x }
         requires room { slice_index self.now.ends.items x ≤ length self.now.list.items }
+        // The part of `list` from its start to its end.
         ensures { result.now ≡ slice_range self.now.list.items (slice_index self.now.starts.items x)
             (slice_index self.now.ends.items x) }
     {
@@ -72,7 +73,8 @@ impl Distances {
     ///
     /// Fails with `AllocError` if an allocation is refused. O(n + m).
     pub fn all_ways(&self, alloc: Global, net: &Net) -> Result<AllWays, AllocError>
-        requires { IsMeasureOf net.now self.now }
+        requires measured { IsMeasureOf net.now self.now }
+        // Each node has exactly its ways, nearest first.
         ensures { IfOk result (HoldWays net.now self.now.dest) }
     {
         net.network_law();

@@ -13,7 +13,7 @@ loop-at-init c =
     let ends : c.in_ok-ends.ends.items ≡ starts = search rules in
     let long : length list ≡ c.in_ok-starts.room = search rules in
     let in_order : AreInOrder table c.in_ok-order.order.items = rw (sym c.numbers.ensures) c.in_ok-order.ensures in
-    rw ends (begin_listing in_order c.requires.one_each (rw long c.in_ok-starts.ensures))
+    rw ends (begin_listing in_order c.requires.measured.one_each (rw long c.in_ok-starts.ensures))
 
 pub loop-at-preserved : goal.loop-at-preserved
 loop-at-preserved c =
@@ -53,6 +53,6 @@ returns c =
       ends = filling.one_each;
       rise = λ x low. (filling.each x low).rise;
       inside = λ x low. omega (arith, (filling.each x low).fits, filling.rooms.inside x low);
-      each = λ x low. ways_held m.dest c.loop-at.at x law.is_net law.limits.nodes_few c.requires in_order
+      each = λ x low. ways_held m.dest c.loop-at.at x law.is_net law.limits.nodes_few c.requires.measured in_order
           (omega (arith, c.loop-at-test.false)) inv low;
     }
