@@ -693,8 +693,7 @@ impl Router {
     /// ([`phase_law`](fr_ways::laws::phase_law)). The table can have cycles, and ways that are out of range.
     ///
     /// Fails with `Length` if the table does not have one list for each node, and with `Memory` if an allocation is
-    /// refused; never with `Range` or `Cycle`. O(n + m), and the time to read the
-    /// table.
+    /// refused; never with `Range` or `Cycle`. O(n + m), and the time to read the table.
     pub fn phases(&self, alloc: Global, table: &WayTable) -> Result<TwoPhases, WaysFault>
         // From any table of ways, the pushes of two phases lead to the ways of all nodes.
         ensures phases { IfOk result (LeadToWays self.now table.now) }
