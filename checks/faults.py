@@ -9,7 +9,7 @@ The faults of a check are the files NAME.edit in its folder faults/. They have t
     # says: the loop of a planted order:  what the check must print
 
 'old:' and 'new:' can be repeated, and so can 'file:'. With the line '# everywhere' a text may occur more than once, and each occurrence is replaced.
-With a line '# in: answer_alone' it has to occur once in the function of this name.
+With a line '# in: answer_telling_alone' it has to occur once in the function of this name.
 The command can-fail of a check makes the edit in a copy of the repository and runs the check there, or the command that a line '# by:' has, such as
 'package/version --check'. It must fail, and print what '# says:' has. A line '# builds:' names a program that is built with the edit, without a proof.
 

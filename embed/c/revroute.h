@@ -453,8 +453,7 @@ revroute_status revroute_nearest(revroute *session, uint32_t node, uint32_t *nod
  *
  * There are at most as many ways as links, so a room of the number of links is enough for `ways`. REVROUTE_TOO_SHORT if
  * one of the arrays is too short; *length is then the length of `ways` that is needed. REVROUTE_NO_MEMORY if memory ran
- * out. After any result but REVROUTE_ANSWERED both arrays are unchanged. O(n + m log d) if no node has
- * more than d links. */
+ * out. After any result but REVROUTE_ANSWERED both arrays are unchanged. O(n + m). */
 revroute_status revroute_all_ways(revroute *session, size_t *starts, size_t starts_room, uint32_t *ways,
                                   size_t ways_room, size_t *length);
 
@@ -477,7 +476,7 @@ revroute_status revroute_all_ways(revroute *session, size_t *starts, size_t star
  *
  * A room of twice the number of nodes and the number of links is always enough. REVROUTE_NO_TABLE if `starts` does not
  * have one number more than there are nodes, or does not begin with 0, or falls, or does not end with `count`.
- * REVROUTE_NO_MEMORY if memory ran out. O(n + m log d + count) if no node has more than d links. */
+ * REVROUTE_NO_MEMORY if memory ran out. O(n + m + count). */
 revroute_status revroute_shrink(revroute *session, const size_t *starts, size_t starts_count, const uint32_t *ways,
                                 size_t count, uint32_t *pushes, size_t room, size_t *length);
 revroute_status revroute_grow(revroute *session, const size_t *starts, size_t starts_count, const uint32_t *ways,

@@ -62,7 +62,7 @@ fn cyclic_targets(alloc: Global, nodes: &[u32], most: usize) -> Result<Vec<Targe
 }
 
 /// The entries of a play, one on each line, and then the links and the counts at the end.
-pub(crate) fn play_text(
+pub(crate) fn text_of_play(
     alloc: Global,
     net: &Net,
     dest: u32,

@@ -12,7 +12,7 @@ ghost use Rattle.fr_cli.specs.Draws.{drawn};
 ghost use Rattle.fr_command.specs.Faults.{IsDrawnPlayFault};
 ghost use Rattle.fr_command.specs.Plays.{targets_for, IsRefusal, IsPlayText, IsPlayOf, IsPlayOutput, WritesPlay};
 
-use crate::entries::{play_text, push_count, targets_of};
+use crate::entries::{push_count, targets_of, text_of_play};
 use fr_bytes::{Lines, RunFault, read_input, write_out};
 use fr_cli::Draw;
 use fr_core::{Entry, play};
@@ -119,7 +119,7 @@ fn play_net(alloc: Global, net: &Net, dest: u32, draw: Draw) -> Result<(String, 
     ensures { IfOk result (λ made. IsPlayText draw net.now.nodes dest net.now.links (string_bytes made.0) made.1) }
 {
     let entries = entries_of(alloc, net, dest, draw)?;
-    let text = play_text(alloc, net, dest, &entries)?;
+    let text = text_of_play(alloc, net, dest, &entries)?;
     Ok((text, entries.len() as u64))
 }
 

@@ -81,13 +81,13 @@ pub fn program<'a, T: Threads + Wait + Sync, R: Read, W: Write>(
         (traffic_of (R.remaining stream.new.reader) (W.contents stream.new.writer))) }
 {
     match command_line(alloc, words) {
-        Ok(line) => perform(rt, alloc, &line, stream),
+        Ok(line) => perform_task(rt, alloc, &line, stream),
         Err(fault) => end_without_task(fault, &mut stream.writer),
     }
 }
 
 /// Does the task of a command line.
-fn perform<T: Threads + Wait + Sync, R: Read, W: Write>(
+fn perform_task<T: Threads + Wait + Sync, R: Read, W: Write>(
     rt: &T,
     alloc: Global,
     line: &CommandLine,

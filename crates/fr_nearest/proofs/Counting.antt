@@ -12,11 +12,11 @@ use Rattle.fr_graph.proofs.Lists.{into_filter}
 use Rattle.fr_nearest.specs.Ways.{AreWays}
 use Rattle.fr_nearest.proofs.Walking.{ways_once}
 
-into_map : {X Y : Type 0} (f : X → Y) (xs : List X) (x : X) → Contains xs x → Contains (map f xs) (f x)
+pub into_map : {X Y : Type 0} (f : X → Y) (xs : List X) (x : X) → Contains xs x → Contains (map f xs) (f x)
 into_map f xs x (k, inside, is) =
     (k, omega (arith, inside, length-map xs f), get_or-map f xs k x (f x) inside ∙ ap f is)
 
-no_more : (some other : List ℕ) → IsDistinct eqb some → ((x : ℕ) → Contains some x → Contains other x)
+pub no_more : (some other : List ℕ) → IsDistinct eqb some → ((x : ℕ) → Contains some x → Contains other x)
     → length some ≤ length other
 no_more some other once in_other = length-le_from_is_member {eq = eqb} nat_eq_equiv some other once
     (λ x found. list_any-from_Contains {eq = eqb} nat_eq_equiv x other

@@ -10,3 +10,5 @@ pub mod Ranking  -- the ways of a node, from its row
 pub mod Marking  -- nodes that are marked, one by one
 pub mod Keeping  -- why a node that is not listed has kept its ways
 pub mod Counting  -- a table of ways has no more ways than there are links
+pub mod Ordering  -- the nodes that have a distance, in order
+pub mod Filling  -- the lists of all nodes grow in order

@@ -47,7 +47,7 @@ up_to entries place k e lt le =
     )
 
 -- where it is
-place_of : (entries : List (ℕ × First)) (place : ℕ) (e : ℕ × First) → place ≤ length entries
+pub place_of : (entries : List (ℕ × First)) (place : ℕ) (e : ℕ × First) → place ≤ length entries
     → Contains (take place entries) e
     → (k : ℕ) × (k < place) × ((d : ℕ × First) → get_or entries k d ≡ e)
 place_of entries place e le (k, l, is) =
@@ -60,7 +60,7 @@ module _ (n : ℕ) (links : List (ℕ × ℕ)) (x : ℕ) (entries : List (ℕ ×
   entry = get_or entries place (0, Outward)
 
   -- the neighbours before have lower numbers
-  lower : (k : ℕ) (d : ℕ × First) → k < place → (get_or entries k d).0 < entry.0
+  pub lower : (k : ℕ) (d : ℕ × First) → k < place → (get_or entries k d).0 < entry.0
   lower k d lt =
       let rises =
       row_rises n links x k place (0, Outward) lt (subst (λ (es : List (ℕ × First)). place < length es) are inside) in
@@ -327,7 +327,7 @@ module _ {n : ℕ} {links : List (ℕ × ℕ)} {d x : ℕ} {table : List ℕ} (b
   }
 
   -- once they are sorted
-  ways_of : {list sorted : List ℕ} → n ≤ most_nodes → AreListed links table x list
+  pub ways_of : {list sorted : List ℕ} → n ≤ most_nodes → AreListed links table x list
       → IsPermutation list sorted → IsNonDecreasingBy (rank_of table) sorted → AreWays links d x sorted
   ways_of {list} {sorted} few l same rises =
       let just : (w : ℕ) → Contains sorted w → IsWay links d x w = λ w h.

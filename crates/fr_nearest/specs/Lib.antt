@@ -6,6 +6,7 @@ pub mod Search
 pub mod Update
 pub mod Changes
 pub mod Ranks
+pub mod Order
 pub mod Laws
 pub mod Inside
 pub mod Affected

@@ -12,13 +12,16 @@
 #![tactic(auto)]
 
 mod affected;
+mod all_ways;
 mod distance_changes;
 mod distances;
 pub mod laws;
+mod order;
 mod search;
 mod update;
 mod ways;
 
 pub use affected::Affected;
+pub use all_ways::AllWays;
 pub use distances::Distances;
 pub use update::Touched;

@@ -22,7 +22,7 @@ pub(crate) fn way_rank(distance: u16, w: u16) -> u32
 }
 
 /// Whether a link that a node sees so points away from it.
-fn points_away(first: First) -> bool
+pub(crate) fn points_away(first: First) -> bool
     ensures { IsTrue result ↔ (first ≡ Outward) }
 {
     match first {

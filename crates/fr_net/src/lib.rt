@@ -8,4 +8,4 @@ pub use fr_graph::{
     Edit, EditFault, First, Links, MAX_EDITS, MAX_LINKS, MAX_NODES, Net, NetFault, NotEdited,
     Turns, laws,
 };
-pub use fr_requests::{LineFault, Question, Request, read_line};
+pub use fr_requests::{LineFault, LineReader, Question, Request, read_line};

@@ -1,11 +1,10 @@
 -- A line that is read by its bytes: from its lexemes to its request.
-use Rattle.std.proofs.Common.{Bool, Err, IsUtf8, List, None, Ok, Option, Some, [], ap, append_assoc, arith, codes}
+use Rattle.std.proofs.Common.{IsUtf8, List, Ok, Option, Some, [], ap, append_assoc, arith, codes}
 use Rattle.std.proofs.Common.{decimal, lt-ltb, map, ok_or, option_and_then, refl, sym, true}
-use Rattle.std.proofs.Common.{ℕ, ◌++◌, ◌≤◌, ◌∙◌, ◌∷◌, ◌≡◌, false, if◌then◌else◌}
+use Rattle.std.proofs.Common.{ℕ, ◌++◌, ◌≤◌, ◌∙◌, ◌∷◌, ◌≡◌}
 use Rattle.std.proofs.lemmas.Bool.{false≢true}
 use Rattle.std.proofs.lemmas.List.{append-nil}
 use Rattle.std.proofs.lemmas.Str.{IsUtf8-nil}
-use Rattle.std.specs.Str.{bytes_eq}
 use Rattle.json.proofs.Printed.Trees.{value-json_tokens}
 use Rattle.json.specs.Json as json
 use Rattle.json.specs.Json.{Json, value}
@@ -14,16 +13,16 @@ use Rattle.json.specs.Lex.{token, tokens}
 use Rattle.json.specs.Token.{Token}
 use Rattle.json.specs.Tree.{depth, items_depth, items_tokens, json_tokens}
 use Rattle.serde_json.proofs.Numbers.{number_of-decimal}
-use Rattle.serde_json.specs.Data.{Data, Items, array, item, no_items, no_members, number, object, string, unsigned}
+use Rattle.serde_json.specs.Data.{Data, Items, array, item, no_items, number, string, unsigned}
 use Rattle.serde_json.specs.Read.{number_of, of_items, of_json}
 use Rattle.serde_json.specs.View.{items_of}
-use Rattle.fr_requests.specs.LineLexemes.{AreNumbers, AreSmall, Begins, Each, HasSmallEnds, IsNumber, IsReadAs, IsSmall}
-use Rattle.fr_requests.specs.LineLexemes.{IsUnknownWord, edit_ends, edit_lexemes}
-use Rattle.fr_requests.specs.LineLexemes.{letters, link_lexemes, list_lexemes, number_lexeme, number_lexemes, opening}
+use Rattle.fr_requests.specs.LineLexemes.{AreSmall, Begins, Each, HasSmallEnds, IsReadAs, IsSmall}
+use Rattle.fr_requests.specs.LineLexemes.{edit_ends, edit_lexemes}
+use Rattle.fr_requests.specs.LineLexemes.{letters, link_lexemes, list_lexemes, number_lexeme, opening}
 use Rattle.fr_requests.specs.LineLexemes.{plain_edit, word_of}
 use Rattle.fr_requests.specs.Requests.{ask, edit_in, edit_of_word, edits_in, item_list, link_in, links_in, make_edits}
-use Rattle.fr_requests.specs.Requests.{move_dest, new_network, number_in}
-use Rattle.fr_requests.specs.Requests.{PlainRequest, read_all, reading, reading_of_value, request_of, request_of_word}
+use Rattle.fr_requests.specs.Requests.{move_dest, new_network}
+use Rattle.fr_requests.specs.Requests.{read_all, reading, reading_of_value, request_of, request_of_word}
 use Rattle.fr_requests.specs.Requests.{walk_from}
 use Rattle.fr_graph.specs.declared.edit.Edit.{Edit}
 use Rattle.fr_graph.specs.declared.edit.Edit.TheVariants.{Add, Cut, Join}
@@ -114,13 +113,6 @@ edit_placed edit after_value more may = absurd (false≢true may)
 edit_placed edit after_comma more may = refl
 edit_placed edit after_key more may = absurd (false≢true may)
 
-number_placed : IsPlaced number_lexemes number_json
-unfolding punctuate
-number_placed n fresh more may = refl
-number_placed n after_value more may = absurd (false≢true may)
-number_placed n after_comma more may = refl
-number_placed n after_key more may = absurd (false≢true may)
-
 module _ {X : Type 0} (of_one : X → List Lexeme) (json_of : X → Json) (placed : IsPlaced of_one json_of) where
   some_tokens : (x : X) (xs : List X) (place : Place) (more : List Lexeme) → may_begin place ≡ true
       → punctuate place (list_lexemes of_one (x ∷ xs) ++ more) ≡ items_tokens (items_json json_of (x ∷ xs))
@@ -182,9 +174,6 @@ module _ {X : Type 0} (json_of : X → Json) (data_of : X → Data) (P : X → T
 
 wide : (n : ℕ) → IsSmall n → number_of (decimal n) ≡ Some (unsigned n)
 wide n small = number_of-decimal n (omega arith)
-
-number_is_read : IsRead number_json number_data IsSmall number_in
-number_is_read n small = (rw (wide n small), rw (lt-ltb _ _ small), omega arith)
 
 link_is_read : IsRead link_json link_data AreSmall link_in
 link_is_read link small =
@@ -312,64 +301,3 @@ batch_reads rest items edits head closes small line opens =
     rw (list_again (map edit_data edits)) all.1 in
     word_reads_as line (codes "batch") js ds told (both.1 (closes.1 IsUtf8-nil)) (omega (arith, all.2)) (rw all.0)
     ∙ rw listed
-
--- ---- lines of only numbers, an array of one word, and an empty object
-
-pub word_is_none : (line items : List ℕ) → Begins line (token Token.begin_array ∷ []) items → IsUnknownWord items
-    → reading line ≡ Err NotRequest
-unfolding lex punctuate
-word_is_none line items opens is =
-    let both =
-    begins_more line items [] (token Token.begin_array ∷ []) (token (Token.string is.0) ∷ token Token.end_array
-    ∷ []) opens is.2 in
-    word_reads_as line is.0 json.no_items no_items (ap (punctuate fresh) both.0) (both.1 IsUtf8-nil) (omega arith) refl
-    ∙ ap (λ found. ok_or found NotRequest) is.1.1
-
--- no request but a question consists of its word alone
-pub asks_nothing : (word : List ℕ) → bytes_eq word (codes "links") ≡ false → bytes_eq word (codes "counts") ≡ false
-    → bytes_eq word (codes "hops") ≡ false → bytes_eq word (codes "ways") ≡ false → request_of_word word [] ≡ None
-unfolding request_of_word
-asks_nothing word links counts hops ways =
-    rw (links, counts, hops, ways)
-    (none_of (bytes_eq word (codes "net")) _
-    (none_of (bytes_eq word (codes "cut")) _ (none_of (bytes_eq word (codes "add")) _
-    (none_of (bytes_eq word (codes "join")) _
-    (none_of (bytes_eq word (codes "batch")) _ (none_of (bytes_eq word (codes "dest")) _
-    (none_of (bytes_eq word (codes "walk")) _
-    (none_of (bytes_eq word (codes "nearest")) _ (none_of (bytes_eq word (codes "pushes")) _
-    (none_of (bytes_eq word (codes "phases")) _ refl))))))))))
-  where
-    none_of : (test : Bool) (other : Option PlainRequest) → other ≡ None → (if test then None else other) ≡ None
-    none_of true other is = refl
-    none_of false other is = is
-
-pub number_is_none : (line : List ℕ) → IsNumber line → reading line ≡ Err NotRequest
-unfolding lex punctuate
-number_is_none line is = reads_as line (number_json is.0) (number_data is.0) (ap (punctuate fresh) is.2.0)
-    (is.2.1 IsUtf8-nil) (omega arith) (rw (wide is.0 is.1))
-
-numbers_are_none : (ns : List ℕ)
-    → ok_or (request_of (array (items_of (map number_data ns)))) NotRequest ≡ Err NotRequest
-numbers_are_none [] = refl
-numbers_are_none (n ∷ ns) = refl
-
-pub list_is_none : (line items : List ℕ) → Begins line (token Token.begin_array ∷ []) items → AreNumbers items
-    → reading line ≡ Err NotRequest
-unfolding lex punctuate
-list_is_none line items opens are =
-    let ns = are.0 in
-    let all = all_read number_json number_data IsSmall number_in number_is_read ns are.1 in
-    let inside : tokens items ≡ items_tokens (items_json number_json ns) = ap (punctuate fresh) are.2.0
-    ∙ list_tokens number_lexemes number_json number_placed ns [] ∙ append-nil _ in
-    reads_as line (json.array (items_json number_json ns)) (array (items_of (map number_data ns)))
-    (ap (punctuate fresh) opens.0 ∙ ap (λ ts. Token.begin_array ∷ ts) inside)
-    (opens.1 (are.2.1 IsUtf8-nil)) (omega (arith, all.2)) (rw all.0)
-    ∙ numbers_are_none ns
-
-pub object_is_none : (line members : List ℕ) → Begins line (token Token.begin_object ∷ []) members
-    → Begins members (token Token.end_object ∷ []) [] → reading line ≡ Err NotRequest
-unfolding lex punctuate
-object_is_none line members opens end =
-    let both = begins_more line members [] (token Token.begin_object ∷ []) (token Token.end_object ∷ []) opens end in
-    reads_as line (json.object json.no_members) (object no_members) (ap (punctuate fresh) both.0) (both.1 IsUtf8-nil)
-    (omega arith) refl

@@ -1,13 +1,10 @@
 -- Bytes as a pattern finds them, and a number that grows digit by digit.
-use Rattle.std.proofs.Common.{List, Some, [], ap, append_assoc, arith, decimal, drop, eqb-true, get_or, length}
+use Rattle.std.proofs.Common.{List, [], ap, append_assoc, arith, decimal, drop, get_or, length}
 use Rattle.std.proofs.Common.{length-drop, sym, take, take_all, ℕ, ◌*◌, ◌+◌, ◌++◌}
-use Rattle.std.proofs.Common.{◌-◌, ◌/◌, ◌%◌, ◌<◌, ◌≤◌, ◌^◌, ◌∙◌, ◌∷◌, ◌≡◌, ◌==◌}
+use Rattle.std.proofs.Common.{◌-◌, ◌/◌, ◌%◌, ◌<◌, ◌≤◌, ◌^◌, ◌∙◌, ◌∷◌, ◌≡◌}
 use Rattle.std.specs.Prelude.{⊤}
 use Rattle.std.proofs.lemmas.Fmt.{decimal_step}
-use Rattle.std.proofs.lemmas.Grind.{take_at_read}
-use Rattle.std.proofs.lemmas.List.{drop_more, take-append-drop, take_rest}
-use Rattle.std.proofs.lemmas.List.Quantifiers.{position-Some}
-use Rattle.std.specs.List.{position}
+use Rattle.std.proofs.lemmas.List.{drop_more}
 
 -- these bytes follow from the place k on, as a pattern finds them
 abbrev pub StandFrom : ℕ → List ℕ → List ℕ → Type 0
@@ -31,17 +28,6 @@ front_and_rest front bytes long h =
     let all = take_all (length bytes - n) (drop n bytes) (omega (arith, length-drop n bytes)) in
     from_place 0 front bytes (omega arith) h ∙ ap (λ k. front ++ drop k bytes) none
     ∙ ap (λ rest. front ++ rest) (sym all)
-
--- bytes are those before their first quote, the quote, and those after it
-pub cut_at_quote : (bytes : List ℕ) (i : ℕ) → position (λ b. b == 34) bytes ≡ Some i
-    → bytes ≡ (take i bytes ++ 34 ∷ []) ++ take (length bytes - (i + 1)) (drop (i + 1) bytes)
-cut_at_quote bytes i found =
-    let first = position-Some (λ b. b == 34) bytes i 0 found in
-    let quote : get_or bytes i 0 ≡ 34 = eqb-true _ 34 first.1 in
-    let taken : take (i + 1) bytes ≡ take i bytes ++ 34 ∷ [] =
-    (take_at_read bytes i 0 first.0).1 ∙ ap (λ b. take i bytes ++ b ∷ []) quote in
-    sym (take-append-drop (i + 1) bytes) ∙ ap (λ front. front ++ drop (i + 1) bytes) taken
-    ∙ ap (λ rest. (take i bytes ++ 34 ∷ []) ++ rest) (sym (take_rest bytes (i + 1)))
 
 -- a number grows by the next digit
 pub one_digit_more : (n digit m : ℕ) (behind : List ℕ) → m ≡ n * 10 + (digit - 48) → 0 < n → 48 ≤ digit → digit ≤ 57

@@ -1,13 +1,13 @@
 -- The front of a text, as a lexeme.
-use Rattle.std.proofs.Common.{Bool, IsUtf8, List, Some, [], ap, ap₂, append_assoc, arith, decimal, eqb-true, false}
-use Rattle.std.proofs.Common.{get_or, inl, inr, leb-true, lt-ltb, nat_le, refl, subst, sym, true, ℕ}
-use Rattle.std.proofs.Common.{◌&&◌, ◌++◌, ◌<◌, ◌≤◌, ◌==◌, ◌||◌, ◌∙◌, ◌∷◌, ◌≡◌, ◌^◌, if◌then◌else◌}
-use Rattle.std.proofs.lemmas.Bool.{and_parts, or_cases}
+use Rattle.std.proofs.Common.{Bool, IsUtf8, List, Some, [], ap, append_assoc, decimal, eqb-true, false}
+use Rattle.std.proofs.Common.{get_or, inl, inr, refl, subst, sym, true, ℕ}
+use Rattle.std.proofs.Common.{◌++◌, ◌<◌, ◌==◌, ◌||◌, ◌∙◌, ◌∷◌, ◌≡◌, ◌^◌, if◌then◌else◌}
+use Rattle.std.proofs.lemmas.Bool.{or_cases}
 use Rattle.std.proofs.lemmas.Fmt.{IsAscii-decimal}
 use Rattle.std.proofs.lemmas.Str.{IsUtf8-append, IsUtf8-from_ascii}
 use Rattle.json.proofs.Printed.Decimals.{IsNumber-decimal}
 use Rattle.json.proofs.Printed.Numbers.{lex-number}
-use Rattle.json.proofs.Printed.Strings.{content-escape, escape_byte_plain, lex-escape}
+use Rattle.json.proofs.Printed.Strings.{content-escape, lex-escape}
 use Rattle.json.proofs.Printed.Utf8.{IsUtf8-are_ascii, are_ascii}
 use Rattle.json.specs.Lex.{Lexeme, between, class, in_string, lex, lex_byte, operator, operator_lexeme, space}
 use Rattle.json.specs.Lex.{string_token, token}
@@ -15,7 +15,7 @@ use Rattle.json.specs.Print.{escape, escape_byte}
 use Rattle.json.specs.Text.{content, plain}
 use Rattle.json.specs.Token.{Token}
 use Rattle.json.specs.Word.{ends_word, is_operator, is_space}
-use Rattle.fr_requests.specs.LineLexemes.{Begins, is_small_word, letters, number_lexeme, opening, unspaced}
+use Rattle.fr_requests.specs.LineLexemes.{Begins, letters, number_lexeme, opening, unspaced}
 use Rattle.fr_requests.specs.declared.requests.Question.TheVariants.{Counts, Hops, Links, Ways}
 use Rattle.fr_requests.specs.declared.words.EditWord.TheVariants as edit_word
 use Rattle.fr_requests.specs.declared.words.Word.{Word}
@@ -145,25 +145,6 @@ over_begins text over =
     let passed = space_passes text in
     (passed.0 ∙ ap (lex between) over, λ utf8. passed.1 (subst IsUtf8 (sym over) utf8))
 
--- a word has ended before white space that ends the text
-ends_at_end : (text : List ℕ) → unspaced text ≡ [] → ends_word text ≡ true
-ends_at_end [] over = refl
-ends_at_end (b ∷ bs) over = go (is_space b) refl over
-  where
-    go : (s : Bool) → is_space b ≡ s → (if s then unspaced bs else b ∷ bs) ≡ [] → (is_operator b || is_space b) ≡ true
-    go true e over = ap (λ s. is_operator b || s) e ∙ or_true (is_operator b)
-    go false e over = absurd (cc)
-
--- a number, and then only white space
-pub number_ends : (n : ℕ) (text behind : List ℕ) → n < 2 ^ 64 → unspaced text ≡ decimal n ++ behind
-    → unspaced behind ≡ []
-    → Begins text (number_lexeme n ∷ []) []
-number_ends n text behind small is over =
-    begins_more text behind [] (number_lexeme n ∷ []) []
-    (begins text (decimal n) behind (number_lexeme n ∷ []) is (IsUtf8-from_ascii (decimal n) (IsAscii-decimal n small))
-    (lex-number (decimal n) behind (IsNumber-decimal n small) (ends_at_end behind over)))
-    (over_begins behind over)
-
 -- the words of requests have no escapes
 pub letters_plain : (word : Word) → escape (letters word) ≡ letters word
 unfolding escape_byte
@@ -191,23 +172,3 @@ letters_ascii (word.Ask Links) = refl
 letters_ascii (word.Ask Counts) = refl
 letters_ascii (word.Ask Hops) = refl
 letters_ascii (word.Ask Ways) = refl
-
--- a word of small letters has no escapes
-pub small_plain : (word : List ℕ) → is_small_word word ≡ true → escape word ≡ word
-small_plain [] small = refl
-small_plain (b ∷ bs) small =
-    let parts = and_parts (nat_le 97 b && nat_le b 122) (is_small_word bs) small in
-    let low : 97 ≤ b = leb-true 97 b (and_parts (nat_le 97 b) (nat_le b 122) parts.0).0 in
-    let high : b ≤ 122 = leb-true b 122 (and_parts (nat_le 97 b) (nat_le b 122) parts.0).1 in
-    let no_quote : b ≡ 34 → ⊥ = λ e. omega (arith, low, e) in
-    let no_escape : b ≡ 92 → ⊥ = λ e. omega (arith, low, e) in
-    let printed : 32 ≤ b = omega (arith, low) in
-    ap₂ (λ (x y : List ℕ). x ++ y) (escape_byte_plain b no_quote no_escape printed) (small_plain bs parts.1)
-
-pub small_ascii : (word : List ℕ) → is_small_word word ≡ true → are_ascii (34 ∷ (word ++ 34 ∷ [])) ≡ true
-small_ascii [] small = refl
-small_ascii (b ∷ bs) small =
-    let parts = and_parts (nat_le 97 b && nat_le b 122) (is_small_word bs) small in
-    let high : b ≤ 122 = leb-true b 122 (and_parts (nat_le 97 b) (nat_le b 122) parts.0).1 in
-    let ascii : b < 128 = omega (arith, high) in
-    rw (lt-ltb b 128 ascii) (small_ascii bs parts.1)

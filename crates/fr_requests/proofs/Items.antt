@@ -1,13 +1,18 @@
 -- The items of an array, as values and as data.
 use Rattle.std.proofs.Common.{append_assoc, sym, ◌+◌, List, None, Option, Some, option_and_then, [], ap, arith, drop}
 use Rattle.std.proofs.Common.{get_or, length, map, option_map}
-use Rattle.std.proofs.Common.{refl, suc, take, take_all, zero, ℕ, ◌++◌, ◌-◌, ◌<◌, ◌∷◌, ◌≡◌, ◌≤◌}
+use Rattle.std.proofs.Common.{refl, suc, take, take_all, zero, ℕ, ◌++◌, ◌-◌, ◌<◌, ◌∙◌, ◌∷◌, ◌≡◌, ◌≤◌}
 use Rattle.std.proofs.Math.Seq.{drop-nil}
 use Rattle.std.proofs.lemmas.List.{append-nil}
 use Rattle.serde_json.specs.Data.{Data}
-use Rattle.serde_json.specs.Find.{as_array, as_str}
-use Rattle.serde_json.specs.View.{items_of, items_view, view}
-use Rattle.serde_json.specs.declared.value.Value.{Value}
+use Rattle.serde_json.specs.Find.{as_str}
+use Rattle.serde_json.specs.View.{items_of}
+use Rattle.json.proofs.Trees.{view-Array}
+use Rattle.json.specs.Value.{items_view, value_view}
+use Rattle.json.specs.declared.value.Value.TheVariants.{Array}
+use Rattle.std.specs.declared.alloc.Global.{Global}
+use Rattle.std.specs.declared.vec.Vec.{Vec}
+use Rattle.fr_requests.specs.Values.{Value, data_of, data_of_items, view}
 use Rattle.fr_requests.specs.Returned.{IsReadNext}
 use Rattle.fr_requests.specs.Requests.{item_list, items_in, read_all, read_by_word}
 
@@ -15,9 +20,15 @@ pub list_again : (ds : List Data) → item_list (items_of ds) ≡ ds
 list_again [] = refl
 list_again (d ∷ ds) = ap (λ rest. d ∷ rest) (list_again ds)
 
+items_listed : (vs : List Value) → item_list (data_of_items (items_view vs)) ≡ map view vs
+items_listed [] = refl
+items_listed (v ∷ vs) = ap (λ rest. view v ∷ rest) (items_listed vs)
+
 -- the items of an array are the views of its values
-pub items_viewed : (d : Data) (vs : List Value) → as_array d ≡ Some (items_view vs) → items_in d ≡ Some (map view vs)
-items_viewed d vs e = rw e (ap Some (list_again (map view vs)))
+pub items_viewed : (value : Value) (vs : Vec Value Global) → value ≡ Array vs
+    → Some (map view vs.items) ≡ items_in (view value)
+items_viewed value vs is =
+    sym (ap (λ j. items_in (data_of j)) (ap value_view is ∙ view-Array vs) ∙ ap Some (items_listed vs.items))
 
 -- if no item is read yet, all are ahead
 pub reading_begins : {X : Type 0} (one : Data → Option X) (vs : List Value) (read : List X) → read ≡ []

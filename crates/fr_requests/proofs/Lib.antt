@@ -2,6 +2,10 @@
 pub mod Items
 -- the value of a line, from what serde_json promises
 pub mod LineValues
+-- the data of a text, from its value of JSON
+pub mod Readings
+-- the numbers of JSON that are numbers of a request
+pub mod Naturals
 -- bytes as a pattern finds them
 pub mod FoundBytes
 -- the front of a text as a lexeme

@@ -1,3 +1,4 @@
 pub mod Requests
 pub mod Returned
 pub mod LineLexemes
+pub mod Values

@@ -1,6 +1,5 @@
 -- The lines that are read by their bytes, as lexemes without white space. For proofs only.
-use Rattle.std.specs.Prelude.{ℕ, List, [], ◌∷◌, ◌++◌, ◌≡◌, ◌<◌, ◌^◌, ◌&&◌, Bool, if◌then◌else◌, Ok, None, codes, decimal, nat_le, true, ⊤}
-use Rattle.std.specs.List.{list_all}
+use Rattle.std.specs.Prelude.{ℕ, List, [], ◌∷◌, ◌++◌, ◌≡◌, ◌<◌, ◌^◌, if◌then◌else◌, Ok, codes, decimal, ⊤}
 use Rattle.std.specs.Str.{IsUtf8}
 use Rattle.json.specs.Lex.{Lexeme, token, comma, between, lex}
 use Rattle.json.specs.Token.{Token}
@@ -14,7 +13,7 @@ use Rattle.fr_requests.specs.declared.words.Word.{Word}
 use Rattle.fr_requests.specs.declared.words.Word.TheVariants as word
 use Rattle.fr_requests.specs.declared.word_lines.ShortRequest.{ShortRequest}
 use Rattle.fr_requests.specs.declared.word_lines.ShortRequest.TheVariants as brief
-use Rattle.fr_requests.specs.Requests.{PlainRequest, cut_link, add_link, ask, join_nodes, move_dest, reading, request_of_word, walk_from}
+use Rattle.fr_requests.specs.Requests.{PlainRequest, cut_link, add_link, ask, join_nodes, move_dest, reading, walk_from}
 
 -- a text without the white space at its front
 abbrev pub unspaced : List ℕ → List ℕ
@@ -110,28 +109,3 @@ abbrev pub list_lexemes : {X : Type 0} → (X → List Lexeme) → List X → Li
 list_lexemes of_one [] = token Token.end_array ∷ []
 list_lexemes of_one (x ∷ []) = of_one x ++ token Token.end_array ∷ []
 list_lexemes of_one (x ∷ y ∷ ys) = of_one x ++ comma ∷ list_lexemes of_one (y ∷ ys)
-
--- a number as an item
-abbrev pub number_lexemes : ℕ → List Lexeme
-number_lexemes n = number_lexeme n ∷ []
-
--- a text is a number
-abbrev pub IsNumber : List ℕ → Type 0
-IsNumber text = (n : ℕ) × IsSmall n × Begins text (number_lexemes n) []
-
--- a text is numbers, separated by commas, and the bracket after them
-abbrev pub AreNumbers : List ℕ → Type 0
-AreNumbers text = (ns : List ℕ) × Each IsSmall ns × Begins text (list_lexemes number_lexemes ns) []
-
--- a word of small letters, from a to z
-abbrev pub is_small_word : List ℕ → Bool
-is_small_word word = list_all (λ b. nat_le 97 b && nat_le b 122) word
-
--- a word makes no request if no item follows it
-abbrev pub AsksNothing : List ℕ → Type 0
-AsksNothing word = (is_small_word word ≡ true) × (request_of_word word [] ≡ None)
-
--- a text is such a word, and the bracket after it
-abbrev pub IsUnknownWord : List ℕ → Type 0
-IsUnknownWord text =
-    (word : List ℕ) × AsksNothing word × Begins text (token (Token.string word) ∷ token Token.end_array ∷ []) []

@@ -10,11 +10,11 @@
 mod fronts;
 mod lines;
 mod lists;
-mod no_requests;
+mod numbers;
 mod read;
 mod requests;
 mod word_lines;
 mod words;
 
-pub use lines::read_line;
+pub use lines::{LineReader, read_line};
 pub use requests::{LineFault, NodeQuestion, Question, Request};

@@ -2,12 +2,12 @@
 
 ghost use Rattle.std.specs.Prelude.{◌≡◌, ◌∷◌, ◌++◌, [], List, Option, IfOk, IfErr, IfSome, true};
 ghost use Rattle.serde_json.specs.Data.{Data};
-ghost use Rattle.serde_json.specs.View.{view};
 ghost use Rattle.fr_requests.specs.Requests.{edit_in, hop_in, link_in, number_in};
 ghost use Rattle.json.specs.Lex.{Lexeme, token, comma};
 ghost use Rattle.json.specs.Token.{end_array};
 ghost use Rattle.fr_requests.specs.declared.requests.LineFault.TheVariants.{Memory};
 ghost use Rattle.fr_requests.specs.LineLexemes.{Begins, Each, AreSmall, HasSmallEnds, letters_of_edit, ends_lexemes};
+ghost use Rattle.fr_requests.specs.Values.{view};
 ghost use Rattle.fr_requests.specs.LineLexemes.{link_lexemes, edit_lexemes, list_lexemes, word_of, edit_ends};
 
 use crate::fronts::{ends_line, number_before, skip_mark};
@@ -16,7 +16,7 @@ use crate::requests::LineFault;
 use crate::words::{EditWord, Word, opening_word};
 use fr_graph::Edit;
 use fr_tables::Hop;
-use serde_json::Value;
+use json::Value;
 use std::alloc::Global;
 
 /// An item of a list that is read by its bytes: a link or an edit.
@@ -36,7 +36,7 @@ pub(crate) trait OfValue: Drop {
     ghost in_data: { Data → Option Self };
 
     /// The item that a value of JSON describes.
-    fn from_value(value: &Value) -> Option<Self>
+    fn from_value(value: &Value<'_>) -> Option<Self>
         ensures { result ≡ in_data (view value.now) };
 }
 
@@ -54,7 +54,7 @@ impl Item for (u32, u32) {
 impl OfValue for (u32, u32) {
     ghost in_data = { link_in };
 
-    fn from_value(value: &Value) -> Option<(u32, u32)> {
+    fn from_value(value: &Value<'_>) -> Option<(u32, u32)> {
         link(value)
     }
 }
@@ -76,7 +76,7 @@ impl Item for Edit {
 impl OfValue for Edit {
     ghost in_data = { edit_in };
 
-    fn from_value(value: &Value) -> Option<Edit> {
+    fn from_value(value: &Value<'_>) -> Option<Edit> {
         edit(value)
     }
 }
@@ -84,7 +84,7 @@ impl OfValue for Edit {
 impl OfValue for Hop {
     ghost in_data = { hop_in };
 
-    fn from_value(value: &Value) -> Option<Hop> {
+    fn from_value(value: &Value<'_>) -> Option<Hop> {
         hop(value)
     }
 }
@@ -92,7 +92,7 @@ impl OfValue for Hop {
 impl OfValue for u32 {
     ghost in_data = { number_in };
 
-    fn from_value(value: &Value) -> Option<u32> {
+    fn from_value(value: &Value<'_>) -> Option<u32> {
         number(value)
     }
 }

@@ -1,10 +1,10 @@
-//! The request of a line by `serde_json`, which reads the lines that are not read by their bytes. `specs/Requests.antt`
-//! defines which line is which request.
+//! The request of a line by its value of JSON. `specs/Requests.antt` defines which line is which request.
 
 ghost use Rattle.std.specs.Prelude.{◌≡◌, ◌≢◌, ◌∷◌, [], Ok, Err, Some, None, IfOk, IfErr};
 ghost use Rattle.std.specs.Prelude.{OnOk, map, ok_or, option_and_then, option_map};
-ghost use Rattle.serde_json.specs.View.{view};
-ghost use Rattle.fr_requests.specs.declared.requests.LineFault.TheVariants.{NotRequest, Memory};
+ghost use Rattle.serde_json.specs.Find.{as_str};
+ghost use Rattle.serde_json.specs.Read.{read};
+ghost use Rattle.fr_requests.specs.declared.requests.LineFault.TheVariants.{NotJson, NotRequest, Memory};
 ghost use Rattle.fr_requests.specs.Returned.{IsReadNext, Tells};
 ghost use Rattle.fr_requests.specs.Requests.{plain, reading, request_of, request_of_word, cut_link, add_link};
 ghost use Rattle.fr_requests.specs.Requests.{join_nodes, move_dest, walk_from, network_request, pair_request};
@@ -12,36 +12,70 @@ ghost use Rattle.fr_requests.specs.Requests.{batch_request, node_request, ask_re
 ghost use Rattle.fr_requests.specs.Requests.{edit_of_word, number_pair, read_all, single_number, number_in};
 ghost use Rattle.fr_requests.specs.Requests.{ask_node, hop_in, numbers_in, phases_request, pushes_request};
 ghost use Rattle.fr_requests.specs.Requests.{way_table_in, ways_in, ways_of_word, ways_request};
+ghost use Rattle.fr_requests.specs.Values.{view};
 
 use crate::lists::OfValue;
+use crate::numbers::{is_readable, natural};
 use crate::requests::{LineFault, NodeQuestion, Question, Request};
 use fr_graph::Edit;
 use fr_tables::Hop;
 use fr_ways::WayTable;
-use serde_json::Value;
+use json::{Error, Reader, Scratch, Value};
 use std::alloc::Global;
+
+/// How deep arrays and objects may nest.
+const MAX_DEPTH: usize = 127;
 
 /// The request of a line. It is not inlined, so that lines that are read by their bytes do not pay for its local
 /// variables.
 #[inline(never)]
-pub(crate) fn read_value(alloc: Global, line: &[u8]) -> Result<Request, LineFault>
+pub(crate) fn read_value(
+    alloc: Global,
+    line: &[u8],
+    scratch: &mut Scratch,
+) -> Result<Request, LineFault>
     ensures { Tells (reading line.now) result }
 {
-    match Value::from_slice(alloc, line) {
-        Ok(value) => request_in(alloc, &value),
-        Err(fault) if fault.is_memory() => Err(LineFault::Memory),
-        Err(_) => Err(LineFault::NotJson),
+    let Ok(text) = std::str::from_utf8(line) else {
+        return Err(LineFault::NotJson);
+    };
+    let value = value_of(alloc, text, scratch)?;
+    request_in(alloc, &value)
+}
+
+/// The value of a text.
+fn value_of<'a>(
+    alloc: Global,
+    text: &'a str,
+    scratch: &'a mut Scratch,
+) -> Result<Value<'a>, LineFault>
+    ensures ok { IfOk result (λ value. read text.now ≡ Some (view value)) }
+    ensures refused { IfErr result (λ fault. fault ≢ Memory → (fault ≡ NotJson) × (read text.now ≡ None)) }
+{
+    let mut reader = Reader::new(text, scratch)?;
+    let value = match Value::read(alloc, &mut reader, MAX_DEPTH) {
+        Ok(value) => value,
+        Err(Error::OutOfMemory) => return Err(LineFault::Memory),
+        Err(_) => return Err(LineFault::NotJson),
+    };
+    if reader.next().is_some() {
+        return Err(LineFault::NotJson);
+    }
+    if is_readable(&value) {
+        Ok(value)
+    } else {
+        Err(LineFault::NotJson)
     }
 }
 
 /// The request of a value of JSON.
-fn request_in(alloc: Global, value: &Value) -> Result<Request, LineFault>
+fn request_in(alloc: Global, value: &Value<'_>) -> Result<Request, LineFault>
     ensures { Tells (ok_or (request_of (view value.now)) NotRequest) result }
 {
     let Some([first, rest @ ..]) = items_of(value) else {
         return Err(LineFault::NotRequest);
     };
-    let Some(word) = first.as_str() else {
+    let Some(word) = word_in(first) else {
         return Err(LineFault::NotRequest);
     };
     request_by_word(alloc, word, rest)
@@ -49,7 +83,7 @@ fn request_in(alloc: Global, value: &Value) -> Result<Request, LineFault>
 
 /// The request of a word and the items after it, with an arm for each word.
 #[tactic(auto, unfolding(crate::specs::Requests::request_of_word))]
-fn request_by_word(alloc: Global, word: &str, rest: &[Value]) -> Result<Request, LineFault>
+fn request_by_word(alloc: Global, word: &str, rest: &[Value<'_>]) -> Result<Request, LineFault>
     ensures { Tells (ok_or (request_of_word word.now (map view rest.now)) NotRequest) result }
 {
     match word {
@@ -72,7 +106,7 @@ fn request_by_word(alloc: Global, word: &str, rest: &[Value]) -> Result<Request,
 }
 
 /// A cut, if exactly the two ends of a link follow its word.
-fn read_cut(rest: &[Value]) -> Result<Request, LineFault>
+fn read_cut(rest: &[Value<'_>]) -> Result<Request, LineFault>
     ensures ok { IfOk result (λ request. pair_request cut_link (map view rest.now) ≡ Some (plain request)) }
     ensures refused { IfErr result (λ fault. ok_or (pair_request cut_link (map view rest.now)) NotRequest ≡ Err fault) }
 {
@@ -81,7 +115,7 @@ fn read_cut(rest: &[Value]) -> Result<Request, LineFault>
 }
 
 /// An added link, if exactly its tail and its head follow the word.
-fn read_add(rest: &[Value]) -> Result<Request, LineFault>
+fn read_add(rest: &[Value<'_>]) -> Result<Request, LineFault>
     ensures ok { IfOk result (λ request. pair_request add_link (map view rest.now) ≡ Some (plain request)) }
     ensures refused { IfErr result (λ fault. ok_or (pair_request add_link (map view rest.now)) NotRequest ≡ Err fault) }
 {
@@ -90,7 +124,7 @@ fn read_add(rest: &[Value]) -> Result<Request, LineFault>
 }
 
 /// A join, if exactly the two nodes follow its word.
-fn read_join(rest: &[Value]) -> Result<Request, LineFault>
+fn read_join(rest: &[Value<'_>]) -> Result<Request, LineFault>
     ensures ok { IfOk result (λ request. pair_request join_nodes (map view rest.now) ≡ Some (plain request)) }
     ensures refused { IfErr result
         (λ fault. ok_or (pair_request join_nodes (map view rest.now)) NotRequest ≡ Err fault) }
@@ -100,7 +134,7 @@ fn read_join(rest: &[Value]) -> Result<Request, LineFault>
 }
 
 /// A walk, if exactly its first node follows the word.
-fn read_walk(rest: &[Value]) -> Result<Request, LineFault>
+fn read_walk(rest: &[Value<'_>]) -> Result<Request, LineFault>
     ensures ok { IfOk result (λ request. node_request walk_from (map view rest.now) ≡ Some (plain request)) }
     ensures refused { IfErr result
         (λ fault. ok_or (node_request walk_from (map view rest.now)) NotRequest ≡ Err fault) }
@@ -110,7 +144,7 @@ fn read_walk(rest: &[Value]) -> Result<Request, LineFault>
 }
 
 /// A batch, if exactly an array of edits follows the word.
-fn read_batch(alloc: Global, rest: &[Value]) -> Result<Request, LineFault>
+fn read_batch(alloc: Global, rest: &[Value<'_>]) -> Result<Request, LineFault>
     ensures { Tells (ok_or (batch_request (map view rest.now)) NotRequest) result }
 {
     let [edits] = rest else {
@@ -121,7 +155,7 @@ fn read_batch(alloc: Global, rest: &[Value]) -> Result<Request, LineFault>
 }
 
 /// Another destination, if exactly its number follows the word.
-fn read_destination(rest: &[Value]) -> Result<Request, LineFault>
+fn read_destination(rest: &[Value<'_>]) -> Result<Request, LineFault>
     ensures ok { IfOk result (λ request. node_request move_dest (map view rest.now) ≡ Some (plain request)) }
     ensures refused { IfErr result
         (λ fault. ok_or (node_request move_dest (map view rest.now)) NotRequest ≡ Err fault) }
@@ -131,7 +165,7 @@ fn read_destination(rest: &[Value]) -> Result<Request, LineFault>
 }
 
 /// A question, if nothing follows its word.
-fn read_question(question: Question, rest: &[Value]) -> Result<Request, LineFault>
+fn read_question(question: Question, rest: &[Value<'_>]) -> Result<Request, LineFault>
     ensures ok { IfOk result (λ request. ask_request question (map view rest.now) ≡ Some (plain request)) }
     ensures refused { IfErr result (λ fault. ok_or (ask_request question (map view rest.now)) NotRequest ≡ Err fault) }
 {
@@ -142,7 +176,7 @@ fn read_question(question: Question, rest: &[Value]) -> Result<Request, LineFaul
 }
 
 /// A question about one node, if exactly this node follows its word.
-fn read_node_question(question: NodeQuestion, rest: &[Value]) -> Result<Request, LineFault>
+fn read_node_question(question: NodeQuestion, rest: &[Value<'_>]) -> Result<Request, LineFault>
     ensures ok { IfOk result
         (λ request. node_request (ask_node question) (map view rest.now) ≡ Some (plain request)) }
     ensures refused { IfErr result
@@ -153,7 +187,7 @@ fn read_node_question(question: NodeQuestion, rest: &[Value]) -> Result<Request,
 }
 
 /// The ways of all nodes, if nothing follows the word, or those of the node that follows it.
-fn read_ways(rest: &[Value]) -> Result<Request, LineFault>
+fn read_ways(rest: &[Value<'_>]) -> Result<Request, LineFault>
     ensures ok { IfOk result (λ request. ways_request (map view rest.now) ≡ Some (plain request)) }
     ensures refused { IfErr result (λ fault. ok_or (ways_request (map view rest.now)) NotRequest ≡ Err fault) }
 {
@@ -164,7 +198,7 @@ fn read_ways(rest: &[Value]) -> Result<Request, LineFault>
 }
 
 /// A network, if exactly three items follow the word: the number of nodes, the destination, the links.
-fn read_network(alloc: Global, rest: &[Value]) -> Result<Request, LineFault>
+fn read_network(alloc: Global, rest: &[Value<'_>]) -> Result<Request, LineFault>
     ensures { Tells (ok_or (network_request (map view rest.now)) NotRequest) result }
 {
     let [nodes, dest, links] = rest else {
@@ -178,7 +212,7 @@ fn read_network(alloc: Global, rest: &[Value]) -> Result<Request, LineFault>
 }
 
 /// Pushes, if exactly a table or two tables of hops follow the word.
-fn read_pushes(alloc: Global, rest: &[Value]) -> Result<Request, LineFault>
+fn read_pushes(alloc: Global, rest: &[Value<'_>]) -> Result<Request, LineFault>
     ensures { Tells (ok_or (pushes_request (map view rest.now)) NotRequest) result }
 {
     match rest {
@@ -189,7 +223,7 @@ fn read_pushes(alloc: Global, rest: &[Value]) -> Result<Request, LineFault>
 }
 
 /// Pushes from a table of hops to the next hops.
-fn pushes_from(alloc: Global, table: &Value) -> Result<Request, LineFault>
+fn pushes_from(alloc: Global, table: &Value<'_>) -> Result<Request, LineFault>
     ensures { Tells (ok_or (pushes_request (view table.now ∷ [])) NotRequest) result }
 {
     let table = item_list(alloc, table)?;
@@ -200,7 +234,11 @@ fn pushes_from(alloc: Global, table: &Value) -> Result<Request, LineFault>
 }
 
 /// Pushes from one table of hops to another.
-fn pushes_between(alloc: Global, table: &Value, wanted: &Value) -> Result<Request, LineFault>
+fn pushes_between(
+    alloc: Global,
+    table: &Value<'_>,
+    wanted: &Value<'_>,
+) -> Result<Request, LineFault>
     ensures { Tells (ok_or (pushes_request (view table.now ∷ view wanted.now ∷ [])) NotRequest) result }
 {
     let table = item_list(alloc, table)?;
@@ -209,7 +247,7 @@ fn pushes_between(alloc: Global, table: &Value, wanted: &Value) -> Result<Reques
 }
 
 /// The two phases, if exactly a table of ways follows the word.
-fn read_phases(alloc: Global, rest: &[Value]) -> Result<Request, LineFault>
+fn read_phases(alloc: Global, rest: &[Value<'_>]) -> Result<Request, LineFault>
     ensures { Tells (ok_or (phases_request (map view rest.now)) NotRequest) result }
 {
     let [table] = rest else {
@@ -220,7 +258,7 @@ fn read_phases(alloc: Global, rest: &[Value]) -> Result<Request, LineFault>
 }
 
 /// A table of ways: an array that has the ways of each node.
-fn way_table(alloc: Global, value: &Value) -> Result<WayTable, LineFault>
+fn way_table(alloc: Global, value: &Value<'_>) -> Result<WayTable, LineFault>
     ensures ok { IfOk result (λ table. way_table_in (view value.now) ≡ Some table) }
     ensures refused { IfErr result (λ fault. fault ≢ Memory
         → (fault ≡ NotRequest) × (way_table_in (view value.now) ≡ None)) }
@@ -236,7 +274,7 @@ fn way_table(alloc: Global, value: &Value) -> Result<WayTable, LineFault>
 }
 
 /// Appends the ways that a value describes.
-fn push_ways(alloc: Global, table: &mut WayTable, value: &Value) -> Result<(), LineFault>
+fn push_ways(alloc: Global, table: &mut WayTable, value: &Value<'_>) -> Result<(), LineFault>
     ensures ok { OnOk result (IsReadNext ways_in table.old (view value.now) table.new) }
     ensures refused { IfErr result (λ fault. fault ≢ Memory
         → (fault ≡ NotRequest) × (ways_in (view value.now) ≡ None)) }
@@ -247,12 +285,12 @@ fn push_ways(alloc: Global, table: &mut WayTable, value: &Value) -> Result<(), L
 }
 
 /// The ways of a node: an array of nodes, or a word for a node that has none.
-fn ways_of_node(alloc: Global, value: &Value) -> Result<Vec<u32>, LineFault>
+fn ways_of_node(alloc: Global, value: &Value<'_>) -> Result<Vec<u32>, LineFault>
     ensures ok { IfOk result (λ list. ways_in (view value.now) ≡ Some list.items) }
     ensures refused { IfErr result (λ fault. fault ≢ Memory
         → (fault ≡ NotRequest) × (ways_in (view value.now) ≡ None)) }
 {
-    let Some(word) = value.as_str() else {
+    let Some(word) = word_in(value) else {
         return item_list(alloc, value);
     };
     match word {
@@ -262,7 +300,7 @@ fn ways_of_node(alloc: Global, value: &Value) -> Result<Vec<u32>, LineFault>
 }
 
 /// The items of an array.
-fn item_list<T: OfValue>(alloc: Global, value: &Value) -> Result<Vec<T>, LineFault>
+fn item_list<T: OfValue>(alloc: Global, value: &Value<'_>) -> Result<Vec<T>, LineFault>
     ensures ok { IfOk result
         (λ items. option_and_then (read_all T.in_data) (items_in (view value.now)) ≡ Some items.items) }
     ensures refused { IfErr result (λ fault. fault ≢ Memory
@@ -280,7 +318,7 @@ fn item_list<T: OfValue>(alloc: Global, value: &Value) -> Result<Vec<T>, LineFau
 
 /// Appends the item that a value describes.
 #[inline(always)]
-fn push_item<T: OfValue>(items: &mut Vec<T>, value: &Value) -> Result<(), LineFault>
+fn push_item<T: OfValue>(items: &mut Vec<T>, value: &Value<'_>) -> Result<(), LineFault>
     ensures ok { OnOk result (IsReadNext T.in_data items.old.items (view value.now) items.new.items) }
     ensures refused { IfErr result (λ fault. fault ≢ Memory
         → (fault ≡ NotRequest) × (T.in_data (view value.now) ≡ None)) }
@@ -293,30 +331,30 @@ fn push_item<T: OfValue>(items: &mut Vec<T>, value: &Value) -> Result<(), LineFa
 }
 
 /// A link: an array of its tail and its head.
-pub(crate) fn link(value: &Value) -> Option<(u32, u32)>
+pub(crate) fn link(value: &Value<'_>) -> Option<(u32, u32)>
     ensures { result ≡ link_in (view value.now) }
 {
     two_numbers(items_of(value)?)
 }
 
 /// An edit: an array of its word and two nodes.
-pub(crate) fn edit(value: &Value) -> Option<Edit>
+pub(crate) fn edit(value: &Value<'_>) -> Option<Edit>
     ensures { result ≡ edit_in (view value.now) }
 {
     let [first, rest @ ..] = items_of(value)? else {
         return None;
     };
-    edit_by_word(first.as_str()?, rest)
+    edit_by_word(word_in(first)?, rest)
 }
 
 /// A hop: the number of the next node, or a word.
-pub(crate) fn hop(value: &Value) -> Option<Hop>
+pub(crate) fn hop(value: &Value<'_>) -> Option<Hop>
     ensures { result ≡ hop_in (view value.now) }
 {
     if let Some(next) = number(value) {
         return Some(Hop::To(next));
     }
-    match value.as_str()? {
+    match word_in(value)? {
         "here" => Some(Hop::Here),
         "cut" => Some(Hop::CutOff),
         _ => None,
@@ -325,7 +363,7 @@ pub(crate) fn hop(value: &Value) -> Option<Hop>
 
 /// The edit of a word and the items after it, with an arm for each word.
 #[tactic(auto, unfolding(crate::specs::Requests::edit_of_word))]
-fn edit_by_word(word: &str, rest: &[Value]) -> Option<Edit>
+fn edit_by_word(word: &str, rest: &[Value<'_>]) -> Option<Edit>
     ensures { result ≡ edit_of_word word.now (map view rest.now) }
 {
     let (u, v) = two_numbers(rest)?;
@@ -337,16 +375,27 @@ fn edit_by_word(word: &str, rest: &[Value]) -> Option<Edit>
     }
 }
 
+/// A string.
+#[inline(always)]
+fn word_in<'a>(value: &Value<'a>) -> Option<&'a str>
+    ensures { option_map (λ word. word.now) result ≡ as_str (view value.now) }
+{
+    value.as_str()
+}
+
 /// The values of an array.
 #[inline(always)]
-fn items_of(value: &Value) -> Option<&[Value]>
+fn items_of<'v, 'a>(value: &'v Value<'a>) -> Option<&'v [Value<'a>]>
     ensures { option_map (λ items. map view items.now) result ≡ items_in (view value.now) }
 {
-    Some(value.as_array()?.as_slice())
+    match value {
+        Value::Array(items) => Some(items),
+        _ => None,
+    }
 }
 
 /// The number, if there is exactly one item and it is a number.
-fn one_number(items: &[Value]) -> Option<u32>
+fn one_number(items: &[Value<'_>]) -> Option<u32>
     ensures { result ≡ single_number (map view items.now) }
 {
     let [x] = items else {
@@ -356,7 +405,7 @@ fn one_number(items: &[Value]) -> Option<u32>
 }
 
 /// The two numbers, if there are exactly two items and both are numbers.
-fn two_numbers(items: &[Value]) -> Option<(u32, u32)>
+fn two_numbers(items: &[Value<'_>]) -> Option<(u32, u32)>
     ensures { result ≡ number_pair (map view items.now) }
 {
     let [u, v] = items else {
@@ -366,8 +415,8 @@ fn two_numbers(items: &[Value]) -> Option<(u32, u32)>
 }
 
 /// A number from 0 to 4,294,967,295.
-pub(crate) fn number(value: &Value) -> Option<u32>
+pub(crate) fn number(value: &Value<'_>) -> Option<u32>
     ensures { result ≡ number_in (view value.now) }
 {
-    u32::try_from(value.as_u64()?).ok()
+    u32::try_from(natural(value.as_number()?)?).ok()
 }

@@ -29,6 +29,7 @@ pub mod SettledHops
 pub mod KeptRoutes
 pub mod PushLengths
 pub mod Inside
+pub mod Following
 pub mod Glued
 pub mod PhaseLists  -- the pushes of a phase, one after another
 pub mod Changed

@@ -8,6 +8,7 @@ pub mod Ways
 pub mod Ends
 pub mod Outcomes
 pub mod RouterInside
+pub mod Forwarding
 pub mod Blank
 pub mod NodeWays
 pub mod KeptDistances

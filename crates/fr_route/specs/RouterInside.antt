@@ -12,7 +12,7 @@ pub record IsSoundRouter (r : Inside) : Type 0 where
   pub dest : r.dest < r.net.nodes
   pub round : IsAfterRound (state_of r)
   pub one_each : length r.turns ≡ r.net.nodes
-  pub hops : AreHops (state_of r) r.net.nodes r.hops.items
-  pub distances : KeepsDistances (state_of r) r.distances
-  pub room : r.room ≡ r.net.nodes
+  pub hops : AreHops (state_of r) r.net.nodes r.forwarding.hops.items
+  pub distances : KeepsDistances (state_of r) r.forwarding.distances
+  pub room : r.forwarding.room ≡ r.net.nodes
   pub report : IsReport (state_of r) r.report.turned r.report.cut

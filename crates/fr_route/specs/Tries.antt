@@ -1,18 +1,21 @@
 -- What a router does with edits or a change, by any way to settle networks. For proofs only.
 use Rattle.std.specs.Prelude.{◌≡◌, ◌≢◌, ℕ, List, [], ◌∷◌, Result, Ok, Err, IfOk, IfErr, OnErr}
+use Rattle.fr_graph.specs.Batches.{AreMade}
+use Rattle.fr_graph.specs.Network.{Network}
 use Rattle.fr_graph.specs.declared.edit.Edit.{Edit}
 use Rattle.fr_ways.specs.Changes.{KeepsPushes}
 use Rattle.fr_route.specs.Changes.{IsChanged, IsPlaced, IsUndone}
 use Rattle.fr_route.specs.Listing.{AsksWays, IsListing, nodes_told, ways_told}
-use Rattle.fr_route.specs.Outcomes.{IsEdited}
+use Rattle.fr_route.specs.Outcomes.{IsEdited, IsOutcome}
 use Rattle.fr_route.specs.Reroutes.{AreRerouted}
-use Rattle.fr_route.specs.States.{State, IsReport}
+use Rattle.fr_route.specs.States.{State, IsReport, state_with}
 use Rattle.fr_route.specs.WayPushes.{AreWayChanges}
 use Rattle.fr_route.specs.declared.change.Change.{Change}
 use Rattle.fr_route.specs.declared.change.Report.{Report}
 use Rattle.fr_route.specs.declared.fault.RouteFault.{RouteFault}
 use Rattle.fr_route.specs.declared.fault.RouteFault.TheVariants.{Start, Memory}
 use Rattle.fr_route.specs.declared.fault.NotMade.{NotMade}
+use Rattle.fr_route.specs.declared.outcome.Outcome.{Outcome}
 use Rattle.fr_route.specs.declared.revision.Revision.{Revision}
 use Rattle.fr_route.specs.declared.changed_nodes.ChangedNodes.{ChangedNodes}
 
@@ -59,4 +62,14 @@ pub record IsTried (never : Type 0) (trial : Trial) (s : State) (told : ChangedN
   pub unchanged : OnErr answer (next ≡ s)
   pub untold : OnErr answer (nodes_told more ≡ nodes_told told)
   pub untold_ways : OnErr answer (KeepsPushes (ways_told told) (ways_told more))
+  pub no_start : never → IfErr answer (λ undone. undone.fault ≢ Start)
+
+-- The edits are made in a network, and the outcome is that of the round on it; or they are not made, in any state with
+-- this network, and nothing has changed.
+pub record AreTried (never : Type 0) (net : Network) (revision : Revision) (answer : Result Outcome NotMade)
+    (next : Network) : Type 0 where
+  pub made : IfOk answer (λ outcome. AreMade net revision.edits.now next × IsOutcome next revision.dest outcome)
+  pub fault : (d : ℕ) (counts : List ℕ)
+      → IfErr answer (IsPlaced (state_with net d counts) revision.edits.now revision.dest)
+  pub unchanged : OnErr answer (next ≡ net)
   pub no_start : never → IfErr answer (λ undone. undone.fault ≢ Start)

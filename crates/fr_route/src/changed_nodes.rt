@@ -21,12 +21,26 @@ use std::alloc::{AllocError, Global};
 use std::mem;
 
 /// The list of rerouted nodes, if the caller asks for it.
-#[derive(Debug, Drop)]
+#[derive(Debug)]
 pub(crate) enum ChangedNodes {
     /// The caller does not ask for them.
     Unlisted,
     /// The caller's list. If he also asks what changes do to the ways of nodes, there are notes of that.
     InList(Vec<u32>, Option<Box<WayNotes>>),
+}
+
+// Written by hand: code that drops a list proves this one call. With a derived Drop it proves how each variant is
+// dropped.
+impl Drop for ChangedNodes {
+    fn drop(self) {
+        match self {
+            ChangedNodes::Unlisted => {}
+            ChangedNodes::InList(list, notes) => {
+                drop(list);
+                drop(notes);
+            }
+        }
+    }
 }
 
 impl ChangedNodes {
@@ -45,6 +59,14 @@ impl ChangedNodes {
         match self {
             ChangedNodes::Unlisted => Vec::new(alloc),
             ChangedNodes::InList(list, _notes) => list,
+        }
+    }
+
+    /// The list and the notes, if there is a list.
+    pub fn into_parts(self) -> Option<(Vec<u32>, Option<Box<WayNotes>>)> {
+        match self {
+            ChangedNodes::Unlisted => None,
+            ChangedNodes::InList(list, notes) => Some((list, notes)),
         }
     }
 

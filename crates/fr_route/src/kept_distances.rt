@@ -102,10 +102,9 @@ pub(crate) fn table_of_ways(
     net.network_law();
     let nodes = net.nodes();
     let mut table = WayTable::with_capacity(alloc, nodes as usize, net.link_count())?;
-    let mut list = Vec::new(alloc);
+    let ways = distances.all_ways(alloc, net)?;
     for x in 0..nodes {
-        distances.ways(net, x, &mut list)?;
-        table.push_row(&list)?;
+        table.push_row(ways.row(x))?;
     }
     Ok(table)
 }

@@ -5,8 +5,8 @@
 //! link, joins two nodes, makes a batch of edits or moves the destination, and then settles the network by a crew of
 //! threads. A [`Session`] keeps a router and answers one request after the other. For each call that settles by a crew
 //! there is one with the same results that uses only the calling thread: [`Router::open_alone`],
-//! [`Router::change_alone`], [`Session::answer_line_alone`], [`Session::answer_alone`]. The laws of routes and answers
-//! are in [`laws`].
+//! [`Router::change_alone`], [`Session::answer_line_alone`], [`Session::answer_telling_alone`]. The laws of routes and
+//! answers are in [`laws`].
 //!
 //! Full link reversal is the method of E. Gafni and D. Bertsekas ("Distributed Algorithms for Generating Loop-Free
 //! Routes in Networks with Frequently Changing Topology", 1981). The requests and answers are those of docs/LINES.md.
@@ -23,6 +23,7 @@ mod change;
 mod changed_nodes;
 mod fault;
 mod form;
+mod forwarding;
 mod hops;
 mod json;
 mod kept_distances;

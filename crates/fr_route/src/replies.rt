@@ -40,7 +40,7 @@ use crate::settling::Settler;
 use crate::space::AnswerSpace;
 use fr_crew::CrewFault;
 use fr_graph::{Edit, MAX_EDITS, MAX_NODES, Net, NetFault, Turns};
-use fr_requests::{LineFault, NodeQuestion, Question, Request, read_line};
+use fr_requests::{LineFault, NodeQuestion, Question, Request};
 use fr_tables::Hop;
 use fr_ways::WayTable;
 use std::alloc::Global;
@@ -376,7 +376,7 @@ impl<'a, F: Fn(&Net, u32, Option<&[u32]>, Turns) -> Result<Turns, CrewFault>> Se
         ensures { IsReplied (NeverStarts F.post self.now.settle.now) (answer_form draft.old) session.old
             (reading line.now) told.old result draft.new session.new told.new }
     {
-        match read_line(self.alloc, line) {
+        match session.read(self.alloc, line) {
             Ok(request) => self.reply(session, draft, &request, told),
             Err(LineFault::NotJson) => refuse(draft, Reason::NotJson, &[], None),
             Err(LineFault::NotRequest) => refuse(draft, Reason::NotRequest, &[], None),

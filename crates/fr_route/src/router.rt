@@ -1,10 +1,10 @@
 //! A router: a settled network with its next hops and routes, and the changes after which it settles again.
 
 ghost use Rattle.std.specs.Prelude.{◌≡◌, ◌≢◌, ◌<◌, ◌≤◌, [], ◌∷◌, length, max, replicate, take};
-ghost use Rattle.std.specs.Prelude.{Some, IfOk, IfErr, IfSome, IsTrue, MatchOption, OnErr, OnOk};
+ghost use Rattle.std.specs.Prelude.{Some, IfOk, IfErr, IfSome, MatchOption, OnErr, OnOk};
 ghost use Rattle.std.specs.Option.{option_copied};
 ghost use Rattle.fr_graph.specs.Limits.{most_edits};
-ghost use Rattle.fr_crew.specs.Settlements.{CanBegin, HoldsSinks, IsCounted};
+ghost use Rattle.fr_crew.specs.Settlements.{CanBegin, IsCounted};
 ghost use Rattle.fr_route.specs.Ways.{Settles, NeverStarts};
 ghost use Rattle.fr_route.specs.declared.fault.RouteFault.TheVariants.{Start, Memory};
 ghost use Rattle.fr_route.specs.Listing.{nodes_told};
@@ -16,18 +16,19 @@ ghost use Rattle.fr_route.specs.Reroutes.{ArePushes, AreReplaced, AreWaysIn, IsP
 ghost use Rattle.fr_route.specs.Reroutes.{TellsRerouted, TellsReroutes, nodes_in};
 ghost use Rattle.fr_route.specs.WayPushes.{IsPhasesFault, LeadToWays};
 ghost use Rattle.fr_route.specs.Tries.{IsTried, change_of, edit_of, revision_of};
-ghost use Rattle.fr_route.specs.Outcomes.{IsOutcome, IsRoundFault};
+ghost use Rattle.fr_route.specs.Outcomes.{IsRoundFault};
 ghost use Rattle.fr_tables.specs.Tables.{IsInRange as NamesNodes};
 ghost use Rattle.fr_ways.specs.Ways.{IsInRange};
-ghost use Rattle.fr_route.specs.Outcomes.{IsSettledTable, cut_off_nodes, movable, nodes_listed, state_after};
+ghost use Rattle.fr_route.specs.Outcomes.{IsSettledTable, cut_off_nodes, movable, nodes_listed};
 
 use crate::change::{Change, Report};
 use crate::changed_nodes::ChangedNodes;
 use crate::fault::{NotMade, RouteFault, without_edit_place};
-use crate::hops::{AfterRound, Walked, hop_table, resized_hops};
-use crate::kept_distances::{KeptDistances, table_of_ways};
+use crate::forwarding::{ForwardingState, Moved, begin_telling};
+use crate::hops::{AfterRound, Walked, resized_hops};
+use crate::kept_distances::table_of_ways;
 use crate::outcome::{
-    apply_outcome, count_isolated_nodes, ends_of_edit, push_capped_nodes, report_of, touched_nodes,
+    count_isolated_nodes, ends_of_edit, push_capped_nodes, report_of, touched_nodes,
 };
 use crate::reroutes::Reroutes;
 use crate::revision::Revision;
@@ -37,7 +38,7 @@ use crate::turn_candidates::TurnCandidates;
 use fr_crew::{Crew, CrewFault, Gate, Plan, settled_counts};
 use fr_graph::{Edit, MAX_EDITS, Net, NetFault, Turns};
 use fr_nearest::Distances;
-use fr_tables::{Hop, PushRoom, TableFault, first_outside, known_push_order};
+use fr_tables::{Hop, TableFault, first_outside, known_push_order};
 use fr_ways::{TwoPhases, WayTable, WaysFault, known_phases};
 use std::alloc::{AllocError, Global};
 use std::marker::Model;
@@ -56,9 +57,7 @@ pub struct Router {
     dest: u32,
     turns: Turns,
     spare: SpareTurns,
-    hops: Vec<Hop>,
-    distances: KeptDistances,
-    room: PushRoom,
+    forwarding: ForwardingState,
     report: Report,
 }
 
@@ -70,17 +69,13 @@ impl Drop for Router {
             dest: _,
             turns,
             spare,
-            hops,
-            distances,
-            room,
+            forwarding,
             report: _,
         } = self;
         drop(net);
         drop(turns);
         drop(spare);
-        drop(hops);
-        drop(distances);
-        drop(room);
+        drop(forwarding);
     }
 }
 
@@ -101,30 +96,6 @@ fn keep_turns(last: &mut Turns, spare: &mut SpareTurns, turns: Turns)
     ensures { last.new ≡ turns }
 {
     spare.store_cleared(mem::replace(last, turns));
-}
-
-/// What a router keeps to forward packets, beside its network: the next hops, and room for what changes need.
-#[derive(Drop)]
-struct ForwardingState {
-    hops: Vec<Hop>,
-    distances: KeptDistances,
-    room: PushRoom,
-}
-
-/// The forwarding state after this round. Its distances are not kept yet.
-fn forwarding_state(alloc: Global, round: &AfterRound<'_>) -> Result<ForwardingState, AllocError>
-    requires { IsAfterRound (state_after round.now) }
-    ensures hops { IfOk result (λ made. AreHops (state_after round.now) round.now.net.now.nodes made.hops.items) }
-    ensures distances { IfOk result (λ made. length made.distances.table.table ≡ round.now.net.now.nodes) }
-    ensures unkept { IfOk result (λ made. ¬ IsTrue made.distances.are_kept) }
-    ensures room { IfOk result (λ made. made.room ≡ round.now.net.now.nodes) }
-{
-    round.net.network_law();
-    Ok(ForwardingState {
-        hops: hop_table(alloc, round)?,
-        distances: KeptDistances::unmeasured(alloc, round.net)?,
-        room: PushRoom::new(alloc, round.net.nodes())?,
-    })
 }
 
 /// The hops of the numbers below `count` in the router that another one replaces. Without a router, all are cut off.
@@ -220,40 +191,20 @@ impl<'a, F: Fn(&Net, u32, Option<&[u32]>, Turns) -> Result<Turns, CrewFault>> Se
             router.old told.old result router.new told.new }
     {
         let movable = router.turn_candidates(self.alloc, revision)?;
-        told.make_room(router.net.nodes())?;
-        let distances = &mut router.distances;
-        distances.keep_if_asked(told.wants_ways(), &router.net, router.dest);
-        told.begin_ways(&router.net, &distances.table, revision.edits)?;
+        let distances = &mut router.forwarding.distances;
+        begin_telling(told, distances, &router.net, router.dest, revision.edits)?;
         let from = movable.nodes();
-        let dest = revision.dest;
         let spare = &mut router.spare;
-        let outcome = router.net.edit_if(
-            self.alloc,
-            revision.edits,
-            |net|
-                requires settles { Settles F.pre F.post self.now.settle.now }
-                requires from { (dest < net.now.nodes) × HoldsSinks net.now dest from.now }
-                ensures outcome { IfOk result (IsOutcome net.entry.now dest) }
-                ensures fault { IfErr result
-                    (IsRoundFault (NeverStarts F.post self.entry.now.settle.now) net.entry.now dest) }
-            {
-                net.network_law();
-                let turns = spare.take(self.alloc, net.nodes())?;
-                self.outcome(net, dest, from, turns)
-            },
-        )?;
-        apply_outcome(&mut router.net, &mut router.hops, &outcome, from, told);
-        let distances = &mut router.distances;
-        distances.renew(&router.net, &outcome, revision.edits);
-        told.put_in_order(&mut router.room, &router.hops);
-        told.note_ways(
-            &router.net,
-            &outcome.turns,
-            &distances.table,
-            revision.edits,
-        );
+        let outcome = self.edited_outcome(&mut router.net, spare, revision, from)?;
+        let moved = Moved {
+            edits: revision.edits,
+            nodes: from,
+        };
+        router
+            .forwarding
+            .follow(&mut router.net, &outcome, &moved, told);
         keep_turns(&mut router.turns, &mut router.spare, outcome.turns);
-        router.dest = dest;
+        router.dest = revision.dest;
         router.report = outcome.report;
         Ok(outcome.report)
     }
@@ -324,19 +275,13 @@ impl Router {
             dest,
             turns: &turns,
         };
-        let ForwardingState {
-            hops,
-            distances,
-            room,
-        } = forwarding_state(alloc, &round)?;
+        let forwarding = ForwardingState::after(alloc, &round)?;
         Ok(Router {
             net,
             dest,
             turns,
             spare: SpareTurns::none(),
-            hops,
-            distances,
-            room,
+            forwarding,
             report,
         })
     }
@@ -545,7 +490,7 @@ impl Router {
     pub fn hops(&self) -> &[Hop]
         ensures { AreHops self.now self.now.nodes result.now }
     {
-        &self.hops
+        &self.forwarding.hops
     }
 
     /// The law of a router: its network is the result of a round. The function does nothing; call it where a proof
@@ -624,7 +569,7 @@ impl Router {
         requires { self.now.nodes ≤ count }
         ensures { IfOk result (λ hops. IsSettledTable self.now count hops.items) }
     {
-        resized_hops(alloc, &self.hops, count)
+        resized_hops(alloc, &self.forwarding.hops, count)
     }
 
     /// Lists the nodes whose hop in `table` differs from the hop here, in push order: each one comes after those of
@@ -642,7 +587,7 @@ impl Router {
         // `Memory` only if neither `Length` nor `Range` applies.
         ensures fault { IfErr result (IsPushesFault self.now table.now) }
     {
-        if table.len() != self.hops.len() {
+        if table.len() != self.forwarding.hops.len() {
             return Err(TableFault::Length);
         }
         if let Some(x) = first_outside(table) {
@@ -660,7 +605,7 @@ impl Router {
         ensures { IfOk result (λ nodes. ArePushes self.now table.now nodes.items) }
     {
         self.net.network_law();
-        known_push_order(alloc, table, &self.hops)
+        known_push_order(alloc, table, &self.forwarding.hops)
     }
 
     /// The next hop of node `x`, which must be in the network: the neighbour with the lowest number to which a link
@@ -670,7 +615,7 @@ impl Router {
         // `Here` only at the destination, `CutOff` exactly if there is no route.
         ensures { IsHop self.now x result }
     {
-        self.hops[x as usize]
+        self.forwarding.hops[x as usize]
     }
 
     /// Lists the ways of node `x`, which must be in the network: the nodes to which its links point, nearest first. Ways of
@@ -689,8 +634,10 @@ impl Router {
         ensures ways { OnOk result (AreNodeWays self.old x list.new.items) }
         ensures empty { OnErr result (list.new.items ≡ []) }
     {
-        self.distances.keep_from_now(&self.net, self.dest);
-        self.distances.table.ways(&self.net, x, list)
+        self.forwarding
+            .distances
+            .keep_from_now(&self.net, self.dest);
+        self.forwarding.distances.table.ways(&self.net, x, list)
     }
 
     /// Lists the ways of node `x`, which must be in the network, as [`ways`](Router::ways) does, but in a caller's
@@ -707,8 +654,10 @@ impl Router {
         ensures few { result ≤ length space.new }
         ensures length { length space.new ≡ length space.old }
     {
-        self.distances.keep_from_now(&self.net, self.dest);
-        self.distances.table.ways_in(&self.net, x, space)
+        self.forwarding
+            .distances
+            .keep_from_now(&self.net, self.dest);
+        self.forwarding.distances.table.ways_in(&self.net, x, space)
     }
 
     /// The distance of node `x`, which must be in the network: the fewest links that lead from it down to the
@@ -719,17 +668,19 @@ impl Router {
         // The fewest links down to the destination. `None` exactly for a node that is cut off.
         ensures distance { HasDistance self.old x result }
     {
-        self.distances.keep_from_now(&self.net, self.dest);
-        self.distances.table.distance(x)
+        self.forwarding
+            .distances
+            .keep_from_now(&self.net, self.dest);
+        self.forwarding.distances.table.distance(x)
     }
 
     /// The ways of each node, as [`ways`](Router::ways) lists them. Fails with `AllocError` if an allocation is refused.
-    /// O(n + m log d), where no node has more than d links. It also measures the distances, unless they are kept.
+    /// O(n + m). It also measures the distances, unless they are kept.
     pub fn all_ways(&self, alloc: Global) -> Result<WayTable, AllocError>
         ensures { IfOk result (AreAllWays self.now) }
     {
-        if self.distances.are_kept {
-            return table_of_ways(alloc, &self.net, &self.distances.table);
+        if self.forwarding.distances.are_kept {
+            return table_of_ways(alloc, &self.net, &self.forwarding.distances.table);
         }
         let measured = Distances::measure(alloc, &self.net, self.dest)?;
         table_of_ways(alloc, &self.net, &measured)
@@ -742,8 +693,7 @@ impl Router {
     /// ([`phase_law`](fr_ways::laws::phase_law)). The table can have cycles, and ways that are out of range.
     ///
     /// Fails with `Length` if the table does not have one list for each node, and with `Memory` if an allocation is
-    /// refused; never with `Range` or `Cycle`. O(n + m log d), where no node has more than d links, and the time to read
-    /// the table.
+    /// refused; never with `Range` or `Cycle`. O(n + m), and the time to read the table.
     pub fn phases(&self, alloc: Global, table: &WayTable) -> Result<TwoPhases, WaysFault>
         // From any table of ways, the pushes of two phases lead to the ways of all nodes.
         ensures phases { IfOk result (LeadToWays self.now table.now) }
@@ -769,8 +719,10 @@ impl Router {
         // `Memory` is the only fault.
         ensures memory { IfErr result (λ fault. fault ≡ Memory) }
     {
-        self.distances.keep_from_now(&self.net, self.dest);
-        match self.distances.table.walk(alloc, &self.net, x)? {
+        self.forwarding
+            .distances
+            .keep_from_now(&self.net, self.dest);
+        match self.forwarding.distances.table.walk(alloc, &self.net, x)? {
             Some(route) => Ok(Walked::Route(route)),
             None => Ok(Walked::CutOff),
         }

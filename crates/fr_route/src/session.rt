@@ -1,12 +1,12 @@
 //! The state that the requests so far have made, and the answer to the next request.
 
-ghost use Rattle.std.specs.Prelude.{◌≡◌, ◌≢◌, ◌≤◌, ◌⊎◌, ◌↔◌, length, true, false, Ok, Some, None};
+ghost use Rattle.std.specs.Prelude.{◌≡◌, ◌≢◌, ◌≤◌, ◌⊎◌, ◌↔◌, length, true, false, Ok, Err, Some, None};
 ghost use Rattle.std.specs.Prelude.{IfOk, IfErr, OnErr, IfSome, IfNone, IsTrue, MatchOption, string_bytes};
 ghost use Rattle.std.specs.Option.{option_copied};
 ghost use Rattle.std.specs.declared.alloc.Global.{Global};
 ghost use Rattle.std.specs.declared.vec.Vec.{Vec};
-ghost use Rattle.fr_requests.specs.Requests.{ask};
-ghost use Rattle.fr_requests.specs.Requests.{plain, reading};
+ghost use Rattle.fr_requests.specs.Requests.{ask, plain, reading};
+ghost use Rattle.fr_requests.specs.declared.requests.LineFault.TheVariants.{Memory as NoMemory};
 ghost use Rattle.fr_crew.specs.Settlements.{CanBegin};
 ghost use Rattle.fr_route.specs.Blank.{is_blank as is_blank_line};
 ghost use Rattle.fr_route.specs.Answers.{IsAnswer, IsLineAnswer, MayStartFor, MayStartForLine};
@@ -23,24 +23,26 @@ use crate::settling::{Settler, counts_without_crew};
 use crate::space::AnswerSpace;
 use fr_crew::{Crew, Gate, Plan, settled_counts};
 use fr_graph::Net;
-use fr_requests::{Question, Request, read_line};
+use fr_requests::{LineFault, LineReader, Question, Request};
 use std::alloc::Global;
 use std::marker::Model;
 use std::sync::Wait;
 use std::thread::Threads;
 
-/// A session: the router of the last accepted network, if there is one. The value in contracts is the state of the
-/// router.
+/// A session: the router of the last accepted network, if there is one, and memory for reading lines. The value in
+/// contracts is the state of the router.
 #[derive(Debug)]
 pub struct Session {
     pub(crate) router: Option<Router>,
+    reader: LineReader,
 }
 
 // Written by hand: code that drops a session proves this one call. With a derived Drop it proves how each part is dropped.
 impl Drop for Session {
     fn drop(self) {
-        let Session { router } = self;
+        let Session { router, reader } = self;
         drop(router);
+        drop(reader);
     }
 }
 
@@ -61,7 +63,10 @@ impl Session {
     pub fn new() -> Session
         ensures { result ≡ None }
     {
-        Session { router: None }
+        Session {
+            router: None,
+            reader: LineReader::default(),
+        }
     }
 
     /// The router of the last accepted network, or `None` if there is none yet. O(1).
@@ -90,6 +95,16 @@ impl Session {
         self.router = Some(router);
     }
 
+    /// Reads a line as a request.
+    #[inline(always)]
+    pub(crate) fn read(&mut self, alloc: Global, line: &[u8]) -> Result<Request, LineFault>
+        ensures same { self.new ≡ self.old }
+        ensures ok { IfOk result (λ request. reading line.now ≡ Ok (plain request)) }
+        ensures refused { IfErr result (λ fault. fault ≢ NoMemory → reading line.now ≡ Err fault) }
+    {
+        self.reader.read(alloc, line)
+    }
+
     /// Answers a line, or returns `None` for a blank one. `specs/Answers.antt` defines the answer. The session is then
     /// in the state after the line; a refused line does not change it. Networks are settled with this plan and gate; no
     /// answer depends on them.
@@ -98,7 +113,7 @@ impl Session {
     /// session is unchanged. It fails with `Start` only if a network or a change is accepted and a node can turn, and
     /// never if the budget is 0 or there is one worker.
     ///
-    /// O(b) for b bytes of answer, the cost of [`read_line`], and for the request the cost of [`Net::new`] and
+    /// O(b) for b bytes of answer, the cost of [`LineReader::read`], and for the request the cost of [`Net::new`] and
     /// of the router's calls.
     pub fn answer_line<R: Threads + Wait + Sync, G: Gate + Sync>(
         &mut self,
@@ -128,13 +143,15 @@ impl Session {
             plan,
             gate,
         };
-        Settler::new(
-            alloc,
-            &|net, dest, from, turns|
-                requires { CanBegin net.now dest from turns }
-            { settled_counts(&crew, net, dest, from, turns) },
-        )
-        .text_for_line(self, line, &mut ChangedNodes::Unlisted)
+        // As text, an answer does not depend on the number of its line.
+        let line = Line {
+            number: 0,
+            bytes: line,
+        };
+        match self.answer_line_in(&crew, Form::Text, line, &mut AnswerSpace::new(alloc))? {
+            Some(answer) => Ok(Some(answer.text)),
+            None => Ok(None),
+        }
     }
 
     /// Answers a line as [`answer_line`](Self::answer_line) does, on the calling thread. It starts no thread, does not
@@ -222,24 +239,10 @@ impl Session {
         .text_for_request(self, request, &mut ChangedNodes::Unlisted)
     }
 
-    /// Answers a request as [`answer`](Self::answer) does, on the calling thread. It starts no thread, does not wait,
-    /// and never fails with `Start`. The cost is the same, with the router's calls that end in `_alone`.
-    pub fn answer_alone(&mut self, alloc: Global, request: &Request) -> Result<String, AnswerFault>
-        ensures text { IfOk result (λ text. IsAnswer self.old (plain request.now) (string_bytes text) self.new) }
-        ensures unchanged { OnErr result (self.new ≡ self.old) }
-        ensures short { IfOk result (λ text. (self.new ≡ self.old) ⊎ (length (string_bytes text) ≤ longest_report)) }
-        ensures no_start { IfErr result (λ fault. fault ≢ Start) }
-    {
-        Settler::new(alloc, &counts_without_crew).text_for_request(
-            self,
-            request,
-            &mut ChangedNodes::Unlisted,
-        )
-    }
-
-    /// Answers a request as [`answer_alone`](Self::answer_alone) does, and lists the nodes that the request reroutes in
-    /// the caller's list, as [`Session::answer_line_telling_alone`] does for a line. The cost is the same, with the
-    /// router's calls that list rerouted nodes.
+    /// Answers a request as [`answer`](Self::answer) does, on the calling thread, and lists the nodes that the request
+    /// reroutes in the caller's list, as [`Session::answer_line_telling_alone`] does for a line. It starts no thread,
+    /// does not wait, and never fails with `Start`. The cost is the same, with the router's calls that list rerouted
+    /// nodes.
     pub fn answer_telling_alone(
         &mut self,
         alloc: Global,

@@ -1,14 +1,20 @@
 //! The two ways in which networks are settled: by a crew, or on the calling thread.
 
-ghost use Rattle.std.specs.Prelude.{◌≡◌, ◌≢◌, ℕ, ◌<◌, ◌≤◌, IfOk, IfErr, OnOk, Some, replicate};
+ghost use Rattle.std.specs.Prelude.{◌≡◌, ◌≢◌, ℕ, ◌<◌, ◌≤◌, IfOk, IfErr, OnOk, Some, length, replicate};
+ghost use Rattle.fr_graph.specs.Batches.{AreMade};
+ghost use Rattle.fr_graph.specs.Limits.{most_edits};
+ghost use Rattle.fr_graph.specs.Network.{Network};
 ghost use Rattle.fr_crew.specs.Settlements.{CanBegin, HoldsSinks, IsCounted};
 ghost use Rattle.fr_crew.specs.declared.fault.CrewFault.TheVariants.{Start as CrewStart};
 ghost use Rattle.fr_route.specs.Outcomes.{IsOutcome, IsRoundFault};
+ghost use Rattle.fr_route.specs.Tries.{AreTried};
 ghost use Rattle.fr_route.specs.Ways.{IsCountAnswer, NeverStarts, Settles};
 ghost use Rattle.fr_route.specs.declared.fault.RouteFault.TheVariants.{Start};
 
-use crate::fault::RouteFault;
+use crate::fault::{NotMade, RouteFault};
 use crate::outcome::{Outcome, any_can_turn, report_of};
+use crate::revision::Revision;
+use crate::spare_turns::SpareTurns;
 use fr_crew::{CrewFault, settled_counts_alone};
 use fr_graph::{Net, Turns};
 use std::alloc::Global;
@@ -119,5 +125,40 @@ impl<'a, F: Fn(&Net, u32, Option<&[u32]>, Turns) -> Result<Turns, CrewFault>> Se
             turns,
             report,
         })
+    }
+
+    /// Makes the edits of a revision in a network, if the network that they make can be settled, and returns the
+    /// outcome of the round on it. `spare` is a table for the round. Each node that can turn at first must be in
+    /// `from`.
+    pub(crate) fn edited_outcome(
+        &self,
+        net: &mut Net,
+        spare: &mut SpareTurns,
+        revision: &Revision<'_>,
+        from: &[u32],
+    ) -> Result<Outcome, NotMade>
+        requires settles { Settles F.pre F.post self.now.settle.now }
+        requires few { (revision.now.dest < net.old.nodes) × (length revision.now.edits.now ≤ most_edits) }
+        requires from { (made : Network) → AreMade net.old revision.now.edits.now made
+            → HoldsSinks made revision.now.dest from.now }
+        ensures { AreTried (NeverStarts F.post self.now.settle.now) net.old revision.now result net.new }
+    {
+        let dest = revision.dest;
+        let outcome = net.edit_if(
+            self.alloc,
+            revision.edits,
+            |made|
+                requires settles { Settles F.pre F.post self.now.settle.now }
+                requires from { (dest < made.now.nodes) × HoldsSinks made.now dest from.now }
+                ensures outcome { IfOk result (IsOutcome made.entry.now dest) }
+                ensures fault { IfErr result
+                    (IsRoundFault (NeverStarts F.post self.entry.now.settle.now) made.entry.now dest) }
+            {
+                made.network_law();
+                let turns = spare.take(self.alloc, made.nodes())?;
+                self.outcome(made, dest, from, turns)
+            },
+        )?;
+        Ok(outcome)
     }
 }

@@ -72,7 +72,7 @@ impl AnswerSpace {
 
     /// Keeps what was taken for the next line.
     pub(crate) fn put_back(&mut self, told: ChangedNodes) {
-        if let ChangedNodes::InList(list, notes) = told {
+        if let Some((list, notes)) = told.into_parts() {
             self.list = list;
             if notes.is_some() {
                 self.notes = notes;

@@ -13,7 +13,7 @@ use Rattle.fr_shared_ways.specs.declared.view.View.{View}
 use Rattle.fr_shared_ways.specs.Words.{Fit, ways_of, word_of}
 use Rattle.fr_shared_ways.specs.Histories.{IsHistory, IsTable, StartsWith, blank, push, table_of}
 use Rattle.fr_shared_ways.specs.Rule.{AllFit, KeepsRule, ViewFits, first_view, reader_view, spent_view, with_met}
-use Rattle.fr_shared_ways.specs.Steps.{caught_up, compared, looked, recalled, written}
+use Rattle.fr_shared_ways.specs.Steps.{caught_up, looked, recalled, written}
 use Rattle.fr_shared_ways.specs.Laws.{Explains, StepsKeepTheRule}
 use Rattle.fr_shared_ways.proofs.Histories.{after_append, all_known, blank_is_table, blank_words, last_is_table}
 use Rattle.fr_shared_ways.proofs.Histories.{tables_more}
@@ -295,17 +295,6 @@ module _ {S : Type 0} where
       (fit_set r.history r.at (set s.views id both) other spent_view
       (reader_fits r.history r.at other spent_view (r.history, refl) refl refl) (λ j u _ old. met j u old))
 
-  pub compares : (n slots id : ℕ) (me : Me S View) (x : ℕ) → me.0.writes ≡ true
-      → Allows {S = S} (KeepsRule n) slots id me x (λ word. word) (compared (step slots x 0 0 none) me)
-  compares n slots id me x works s r _ here _ =
-      let mine = r.views id me.0 here in (
-        me.0,
-        keeps,
-        tt,
-        same_views n s id me x r here,
-        (refl, subst (λ (h : List Push). StartsWith h me.0.met) (sym (mine.writer works).1) mine.met, refl),
-      )
-
 -- The laws
 
 pub steps_keep : (n : ℕ) → StepsKeepTheRule n
@@ -316,7 +305,6 @@ steps_keep n = record {
   adds = splits n;
   meets = joins n;
   catches_up = catches_up_at n;
-  compares = compares n;
 }
 
 pub only_first : (n : ℕ) (words : List ℕ) → KeepsRule {S = Unit {0}} n (opening words [] (first_view n))

@@ -1,6 +1,6 @@
 -- Walks while the ways of one new table are pushed.
-use Rattle.std.proofs.Common.{Bool, Contains, List, [], add-one, ap, append-nil, append_assoc, arith, cond, drop, eqb}
-use Rattle.std.proofs.Common.{false, inl, inr}
+use Rattle.std.proofs.Common.{Bool, Contains, List, [], add-one, ap, append_assoc, arith, cond, drop, eqb}
+use Rattle.std.proofs.Common.{inl, inr}
 use Rattle.std.proofs.Common.{length, length-append, length-set, map, refl, set, subst, suc, sym, take, true, zero, ℕ}
 use Rattle.std.proofs.Common.{⊎_elim, ◌++◌, ◌+◌, ◌-◌}
 use Rattle.std.proofs.Common.{◌<◌, ◌≤◌, ◌∙◌, ◌∷◌, ◌≡◌, ◌⊎◌}
@@ -11,7 +11,7 @@ use Rattle.std.proofs.lemmas.List.{append_cancel_left, get_or-set_other, get_or-
 use Rattle.std.proofs.lemmas.List.{take-append-drop}
 use Rattle.std.proofs.lemmas.List.{take-append-le, take_at}
 use Rattle.std.proofs.Math.Seq.{take-append-add}
-use Rattle.std.proofs.lemmas.List.Elements.{Contains-append_cases, Contains-append_left, Contains-append_right}
+use Rattle.std.proofs.lemmas.List.Elements.{Contains-append_left, Contains-append_right}
 use Rattle.std.proofs.lemmas.List.Elements.{Contains-push}
 use Rattle.std.proofs.lemmas.List.Sums.{sum_by-append}
 use Rattle.fr_tables.specs.Walks.{IsWalk, end_of}

@@ -12,7 +12,7 @@ use Rattle.fr_shared_ways.specs.Histories.{IsHistory, IsTable, StartsWith, pushe
 use Rattle.fr_shared_ways.specs.Knowledge.{KnownPast, Knowledge}
 use Rattle.fr_shared_ways.specs.Reading.{GoesBy, HasRead, LearnsPast}
 use Rattle.fr_shared_ways.specs.Rule.{KeepsRule, first_view, reader_view, spent_view, with_met}
-use Rattle.fr_shared_ways.specs.Steps.{caught_up, compared, looked, recalled, written}
+use Rattle.fr_shared_ways.specs.Steps.{caught_up, looked, recalled, written}
 
 -- In every state that the rule allows, the ways in the words are a table without cycles.
 abbrev pub IsTableAtEachMoment : Type 0
@@ -62,14 +62,11 @@ pub record StepsKeepTheRule (n : ℕ) : Type 0 where
       (λ _. written (step slots x (word_of ys) 0 none) me (word_of ys))
   -- one more reader
   pub adds : (id : ℕ) (v : View) → Splits {S = Unit {0}} (KeepsRule n) id v v (reader_view v)
-  -- the step by which a seat takes in what another one knows, and the loads after it, by which a reader catches up and
-  -- the publisher compares
+  -- the step by which a reader takes in what another seat knows, and the load after it, by which it catches up
   pub meets : (id : ℕ) (v : View) (other : ℕ) (w : View)
       → Joins {S = Unit {0}} (KeepsRule n) id v other w (with_met v w) spent_view
   pub catches_up : (slots id : ℕ) (me : Me (Unit {0}) View) (x : ℕ) → me.0.nodes ≡ n
       → Allows (KeepsRule n) slots id me x (λ word. word) (caught_up (step slots x 0 0 none) me)
-  pub compares : (slots id : ℕ) (me : Me (Unit {0}) View) (x : ℕ) → me.0.writes ≡ true
-      → Allows (KeepsRule n) slots id me x (λ word. word) (compared (step slots x 0 0 none) me)
 
 -- Each step of each thread leads from a state that the rule allows to another such state.
 abbrev pub EveryStepKeepsTheRule : Type 0

@@ -38,7 +38,3 @@ module _ {S : Type 0} where
       × (table_of me.0.nodes me'.0.known ≡ slice_set (table_of me.0.nodes me.0.known) s.word (ways_of s.first))
       × IsHistory me.0.nodes me'.0.known
       × (me'.1 ≡ me.1)
-
-  -- the publisher's load after a meeting: what the reader knew is a prefix of all pushes
-  abbrev pub compared : Step S → Me S View → ℕ → Me S View → Type 0
-  compared s me found me' = (me'.0 ≡ me.0) × StartsWith me.0.known me.0.met × (me'.1 ≡ me.1)

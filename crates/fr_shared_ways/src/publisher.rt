@@ -13,7 +13,7 @@ use crate::first::FirstWays;
 use crate::opening::Words;
 use crate::past::Past;
 use crate::reader::Reader;
-use crate::rule::{AddReader, Compare, Meet, Reload, Write};
+use crate::rule::{AddReader, Reload, Write};
 use crate::view::View;
 use crate::words::{MOST, kept_ways_of_loser, ways_in, word};
 use atomic_table::Seat;
@@ -254,19 +254,5 @@ impl Publisher {
         ensures past { result ≡ past_of self.old }
     {
         Past::new(self.table.shared.split_seat::<AddReader>(&mut self.seat))
-    }
-
-    /// Proves that what a reader of this table knows is a prefix of the publisher's pushes. It changes neither.
-    ///
-    /// It makes three loads. O(1).
-    pub fn meet(&mut self, reader: &mut Reader)
-        requires { reader.old.table ≡ self.old.table }
-        ensures met { StartsWith self.old.known reader.old.known }
-        ensures kept { self.new ≡ self.old }
-        ensures reader_kept { reader.new ≡ reader.old }
-    {
-        let seat = reader.copy_seat();
-        self.table.shared.join_seat::<Meet>(&mut self.seat, seat);
-        self.table.shared.load::<Compare>(&mut self.seat, 0);
     }
 }

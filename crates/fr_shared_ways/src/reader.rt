@@ -138,7 +138,7 @@ impl Reader {
     }
 
     /// A seat that knows what this reader knows.
-    pub(crate) fn copy_seat(&mut self) -> Seat<(), View>
+    fn copy_seat(&mut self) -> Seat<(), View>
         ensures kept { self.new ≡ self.old }
         ensures table { (result.table_id ≡ self.old.table) × (result.me.1 ≡ []) }
         ensures known { result.me.0.known ≡ self.old.known }

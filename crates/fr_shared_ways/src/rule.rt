@@ -53,7 +53,7 @@ impl Split<View> for AddReader {
     ghost right = { reader_view };
 }
 
-/// The step by which a seat takes in what another one knows: the publisher meets a reader, or a reader learns.
+/// The step by which a reader takes in what another seat knows.
 pub struct Meet;
 
 impl Join<View> for Meet {
@@ -71,13 +71,4 @@ impl Play<(), View> for CatchUp {
     ghost use Rattle.fr_shared_ways.specs.Steps.{caught_up};
 
     ghost then = { caught_up };
-}
-
-/// The load that shows the publisher that a reader's pushes are among its own.
-pub struct Compare;
-
-impl Play<(), View> for Compare {
-    ghost use Rattle.fr_shared_ways.specs.Steps.{compared};
-
-    ghost then = { compared };
 }

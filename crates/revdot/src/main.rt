@@ -78,7 +78,7 @@ enum UsageFault {
 
 fn main(rt: HostRuntime) -> ExitCode {
     let end = match task_of(&rt) {
-        Ok(Task::Draw(picture, direction)) => perform(&rt, picture, direction),
+        Ok(Task::Draw(picture, direction)) => draw_picture(&rt, picture, direction),
         Ok(Task::Page) => write_page(&rt),
         Ok(Task::Help) => print_result(rt.print(HELP)),
         Ok(Task::Version) => print_result(println!(rt; "revdot {VERSION}")),
@@ -180,7 +180,7 @@ fn direction_of(name: &str) -> Option<Direction> {
 }
 
 /// Draws the input of the program to its output.
-fn perform<R: Alloc<A = Global> + Input + Print>(
+fn draw_picture<R: Alloc<A = Global> + Input + Print>(
     rt: &R,
     picture: Picture,
     direction: Direction,

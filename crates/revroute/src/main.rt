@@ -13,7 +13,7 @@ use std::{env, io};
 
 fn main(rt: HostRuntime) -> ExitCode {
     let end = match words_of(&rt) {
-        Ok(words) => perform(&rt, &words),
+        Ok(words) => run_program(&rt, &words),
         Err(failure) => Err(failure),
     };
     match end {
@@ -43,7 +43,7 @@ fn words_of<R: Env + Alloc<A = Global>>(rt: &R) -> Result<Vec<String>, Failure> 
 }
 
 /// Does what the words ask for, from standard input to standard output, and returns the exit status.
-fn perform<R: Threads + Wait + Sync + Alloc<A = Global> + Input + Print>(
+fn run_program<R: Threads + Wait + Sync + Alloc<A = Global> + Input + Print>(
     rt: &R,
     words: &[String],
 ) -> Result<u8, Failure> {

@@ -10,21 +10,21 @@ use denote.RawPtr.{Ptr, ptr_val}
 use denote.Steps.{nothing}
 use denote.Struct.Struct.{within}
 use denote.Struct.Owning.{shape}
-use Rattle.revroute_c.specs.Machines.{HeldNode}
+use Rattle.revroute_c.specs.NodeStates.{HeldNode}
 use Rattle.revroute_c.specs.contracts.node_state.NodeState.{the_row as S}
 use Rattle.revroute_c.proofs.Owned.{word}
 use Rattle.revroute_c.specs.Owning.{owned_at}
-use Rattle.revroute_c.specs.Machines.{no_machine}
+use Rattle.revroute_c.specs.NodeStates.{no_node}
 use Rattle.revroute_c.specs.declared.node_handle.NodeHandle.{NodeHandle}
 use Rattle.revroute_c.specs.contracts.node_handle.NodeHandle as handle
 
--- the handle with this pointer and this machine
+-- the handle with this pointer and this node state
 abbrev pub handle_of : Ptr → HeldNode → NodeHandle
-handle_of p k = record { at = p; machine = k }
+handle_of p k = record { at = p; node_state = k }
 
 module _ {M : Type 1} {𝓤 : Ura M} {𝓛 : Logic 𝓤} {K : Type 0} {Γ : List (Item 𝓤)} {G : Goal 𝓤 𝓛.H} where
   pub handle_out : K → (d : handle.the_row.Denot) (vs : List Val)
-      → (vs ≡ word d.at ∷ [] → Seq K 𝓛 (‵ (owned_at S no_machine d.at d.machine) ∷ Γ) G)
+      → (vs ≡ word d.at ∷ [] → Seq K 𝓛 (‵ (owned_at S no_node d.at d.node_state) ∷ Γ) G)
       → Seq K 𝓛 (‵ (handle.the_row.own_val d vs) ∷ Γ) G
   handle_out t d vs k =
       fsplit t $ fpick t (λ vss. fsplit t $ feq_l t
@@ -32,7 +32,7 @@ module _ {M : Type 1} {𝓤 : Ura M} {𝓛 : Logic 𝓤} {K : Type 0} {Γ : List
       ∷ []) ep ev))))
 
   pub handle_in : K → (p : Ptr) (k : HeldNode)
-      → Step K 𝓛 (‵ (handle.the_row.own_val (handle_of p k) (word p ∷ [])) ∷ Γ) G (‵ (owned_at S no_machine p k) ∷ Γ) G
+      → Step K 𝓛 (‵ (handle.the_row.own_val (handle_of p k) (word p ∷ [])) ∷ Γ) G (‵ (owned_at S no_node p k) ∷ Γ) G
   handle_in t p s = step (λ k. nothing t $ feq_i t (List Val) (ptr_val p ∷ []) (ptr_val p ∷ []) refl $ fjoin t $ feq_i t
       (List Val) (word p ∷ []) (word p ∷ []) refl $ fjoin t $
       fpack t (Valss (RawPtr ∷ [])) (within (shape handle.the_type) (p, tt) (word p ∷ [])) (

@@ -18,7 +18,7 @@ use Rattle.fr_node.specs.Nodes.{Steps, router}
 use Rattle.fr_node.specs.Policies.{Acts}
 use Rattle.fr_node.specs.Routers.{IsOpen, IsWay}
 use Rattle.revroute_c.specs.declared.nodes.NodePolicy.{NodePolicy}
-use Rattle.revroute_c.specs.Machines.{HeldNode}
+use Rattle.revroute_c.specs.NodeStates.{HeldNode}
 use Rattle.revroute_c.specs.Replies.{IsWritten, Outcome}
 use Rattle.revroute_c.specs.Statuses.{REVROUTE_ANSWERED, REVROUTE_LATER_START, REVROUTE_LINK_DOWN, REVROUTE_NO_MEMORY}
 use Rattle.revroute_c.specs.Statuses.{REVROUTE_NO_MESSAGE, REVROUTE_NO_ROUTE, REVROUTE_OUTDATED, REVROUTE_REFUSED}

@@ -7,7 +7,7 @@ use Rattle.fr_route.specs.Blank.{is_blank}
 use Rattle.fr_route.specs.States.{State}
 use Rattle.fr_route.specs.Telling.{IsLineTold}
 use Rattle.fr_readers.specs.Publishing.{PublishesTo, PublishesWaysTo}
-use Rattle.revroute_c.specs.Engines.{Held, published_of}
+use Rattle.revroute_c.specs.SessionStates.{Held, published_of}
 use Rattle.revroute_c.specs.Replies.{least_room, IsReplied, IsAnswerLength, Outcome}
 use Rattle.revroute_c.specs.Statuses.{REVROUTE_ANSWERED, REVROUTE_BLANK, REVROUTE_TOO_SHORT}
 use Rattle.revroute_c.specs.Statuses.{REVROUTE_NO_MEMORY, REVROUTE_BEGUN, REVROUTE_TOO_LONG}
@@ -49,14 +49,15 @@ pub record AnswersEnd (piece : List ℕ) (old new : Held) (taken : ℕ) (o : Out
   pub line : List ℕ
   pub ends : EndsLine old.begun piece line taken
   pub answered : IsReplied old.session line new.session o
-  -- the engine then has the nodes that the line reroutes
+  -- the session state then has the nodes that the line reroutes
   pub told : IsLineTold old.session (reading line) new.session old.rerouted new.rerouted
   -- they are pushed to the readers, and the ways to readers of ways
   pub published : PublishesTo old.table (published_of new)
   pub ways : PublishesWaysTo old.ways (published_of new)
   pub pushes : new.pushes ≡ old.pushes
 
--- a call takes `taken` bytes of the piece, and answers the line that ends there; the engine changes from `old` to `new`
+-- a call takes `taken` bytes of the piece, and answers the line that ends there; the session state changes from `old`
+-- to `new`
 pub record TakesPiece (piece : List ℕ) (old new : Held) (taken : ℕ) (o : Outcome ℕ) : Type 0 where
   pub answered : o.status ≡ REVROUTE_ANSWERED → AnswersEnd piece old new taken o
   pub blank : o.status ≡ REVROUTE_BLANK → (line : List ℕ) × EndsLine old.begun piece line taken

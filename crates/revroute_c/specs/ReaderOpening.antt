@@ -3,9 +3,9 @@ use Rattle.std.specs.Prelude.{◌≡◌, Some, IfSome}
 use Rattle.fr_shared.specs.Knowledge.{Knowledge}
 use Rattle.fr_shared_ways.specs.Knowledge.{Knowledge as WayKnowledge}
 use Rattle.fr_readers.specs.Published.{HasHopsOf, HasWaysOf}
-use Rattle.revroute_c.specs.Engines.{Held}
+use Rattle.revroute_c.specs.SessionStates.{Held}
 
--- the engine is unchanged, except that the table for its readers of hops may be new
+-- the session state is unchanged, except that the table for its readers of hops may be new
 pub record OpensTable (old new : Held) : Type 0 where
   pub session : new.session ≡ old.session
   pub rerouted : new.rerouted ≡ old.rerouted
@@ -16,12 +16,12 @@ pub record OpensTable (old new : Held) : Type 0 where
   -- if there is a table now, it has the hops of the session
   pub has : IfSome new.table (HasHopsOf new.session)
 
--- the reader reads the engine's table, knows all pushes to it, and reads the hops of the session
-pub record ReadsTableOf (engine : Held) (reading : Knowledge) : Type 0 where
-  pub table : engine.table ≡ Some reading
-  pub hops : HasHopsOf engine.session reading
+-- the reader reads the session state's table, knows all pushes to it, and reads the hops of the session
+pub record ReadsTableOf (state : Held) (reading : Knowledge) : Type 0 where
+  pub table : state.table ≡ Some reading
+  pub hops : HasHopsOf state.session reading
 
--- the engine is unchanged, except that the table for its readers of ways may be new
+-- the session state is unchanged, except that the table for its readers of ways may be new
 pub record OpensWays (old new : Held) : Type 0 where
   pub session : new.session ≡ old.session
   pub rerouted : new.rerouted ≡ old.rerouted
@@ -32,7 +32,7 @@ pub record OpensWays (old new : Held) : Type 0 where
   -- if there is a table now, it has the first ways of the session
   pub has : IfSome new.ways (HasWaysOf new.session)
 
--- the reader reads the engine's table of ways, knows all pushes to it, and reads the first ways of the session
-pub record ReadsWaysOf (engine : Held) (reading : WayKnowledge) : Type 0 where
-  pub table : engine.ways ≡ Some reading
-  pub ways : HasWaysOf engine.session reading
+-- the reader reads the session state's table of ways, knows all pushes to it, and reads the first ways of the session
+pub record ReadsWaysOf (state : Held) (reading : WayKnowledge) : Type 0 where
+  pub table : state.ways ≡ Some reading
+  pub ways : HasWaysOf state.session reading

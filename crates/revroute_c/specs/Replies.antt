@@ -6,7 +6,7 @@ use Rattle.fr_route.specs.Blank.{is_blank}
 use Rattle.fr_route.specs.States.{State}
 use Rattle.fr_route.specs.Telling.{IsLineTold}
 use Rattle.fr_readers.specs.Publishing.{PublishesTo, PublishesWaysTo}
-use Rattle.revroute_c.specs.Engines.{Held, published_of}
+use Rattle.revroute_c.specs.SessionStates.{Held, published_of}
 use Rattle.revroute_c.specs.Statuses.{REVROUTE_ANSWERED, REVROUTE_BLANK, REVROUTE_TOO_SHORT, REVROUTE_NO_MEMORY}
 
 -- the least room for an answer, in bytes
@@ -65,10 +65,10 @@ IsWanted old line room size =
     ((room < least_room) × (size ≡ least_room))
     ⊎ ((least_room ≤ room) × IsAnswerLength old line size)
 
--- a call answers the line in the caller's place; the engine changes from `old` to `new`
+-- a call answers the line in the caller's place; the session state changes from `old` to `new`
 pub record AnswersLine (line : List ℕ) (old new : Held) (o : Outcome ℕ) : Type 0 where
   pub answered : o.status ≡ REVROUTE_ANSWERED → IsReplied old.session line new.session o
-  -- the engine then has the nodes that the line reroutes
+  -- the session state then has the nodes that the line reroutes
   pub told : o.status ≡ REVROUTE_ANSWERED → IsLineTold old.session (reading line) new.session old.rerouted new.rerouted
   pub blank : o.status ≡ REVROUTE_BLANK → (is_blank line ≡ true) × (o.size ≡ 0)
   -- with memory or without

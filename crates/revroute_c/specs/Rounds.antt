@@ -15,7 +15,7 @@ use Rattle.fr_route.specs.States.{State, IsReport, net_at}
 use Rattle.fr_route.specs.Telling.{TellsOf}
 use Rattle.fr_readers.specs.Published.{LeadsBetween}
 use Rattle.fr_readers.specs.Publishing.{PublishesTo, PublishesWaysTo}
-use Rattle.revroute_c.specs.Engines.{Held, published_of}
+use Rattle.revroute_c.specs.SessionStates.{Held, published_of}
 use Rattle.revroute_c.specs.Records.{AreKnown, edit_of, is_unknown}
 use Rattle.revroute_c.specs.Statuses.{REVROUTE_ANSWERED, REVROUTE_REFUSED}
 use Rattle.revroute_c.specs.declared.records.LinkEdit.{LinkEdit}
@@ -39,8 +39,8 @@ round_outcome status round round' refusal refusal' = record {
   refusal_after = refusal';
 }
 
--- The request is accepted. The engine then has the state after it and the nodes that it reroutes, and `round` is the
--- report of its round.
+-- The request is accepted. The session state then has the state after it and the nodes that it reroutes, and `round` is
+-- the report of its round.
 pub record IsNewRound (request : PlainRequest) (old new : Held) (round : Round) : Type 0 where
   pub after : State
   pub accepted : IsAccepted old.session request after
@@ -51,7 +51,8 @@ pub record IsNewRound (request : PlainRequest) (old new : Held) (round : Round) 
   pub ways : PublishesWaysTo old.ways (published_of new)
   pub report : IsReport after round.turned round.cut_off
 
--- a call makes the request, with one round after it, or refuses it for a reason; the engine changes from `old` to `new`
+-- a call makes the request, with one round after it, or refuses it for a reason; the session state changes from `old`
+-- to `new`
 pub record BeginsRound
     (request : PlainRequest) (IsRefused : Refusal → Type 0) (old new : Held) (o : RoundOutcome) : Type 0 where
   pub answered : o.status ≡ REVROUTE_ANSWERED → IsNewRound request old new o.round_after

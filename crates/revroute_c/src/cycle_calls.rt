@@ -45,7 +45,7 @@ pub extern "C" fn revroute_closed_walk(
 {
     *size = 0;
     match handle.session_state_mut() {
-        Some(engine) => walk_of_change(engine.session(), alloc, edits, nodes, size),
+        Some(state) => walk_of_change(state.session(), alloc, edits, nodes, size),
         None => NO_NETWORK,
     }
 }

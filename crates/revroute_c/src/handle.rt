@@ -7,7 +7,7 @@ ghost use Rattle.fr_route.specs.States.{State};
 ghost use Rattle.fr_readers.specs.Published.{WayPushes, published};
 ghost use Rattle.fr_shared.specs.Knowledge.{Knowledge};
 ghost use Rattle.fr_shared_ways.specs.Knowledge.{Knowledge as WayKnowledge};
-ghost use Rattle.revroute_c.specs.Engines.{no_engine, held};
+ghost use Rattle.revroute_c.specs.SessionStates.{no_session, held};
 ghost use Rattle.revroute_c.specs.Holding.{holds};
 
 use crate::box_parts::BoxParts;
@@ -36,21 +36,21 @@ impl Model for Handle {
         (held (published handle.session handle.rerouted handle.table handle.ways handle.pushes) handle.begun) };
 }
 
-// A handle owns its engine, which may go to another thread.
+// A handle owns its session state, which may go to another thread.
 unsafe impl Send for Handle {}
 
 impl Handle {
-    ghost use Rattle.revroute_c.specs.Lending.{LendsEngine, held_by};
+    ghost use Rattle.revroute_c.specs.Lending.{LendsSessionState, held_by};
 
     /// The null handle, of a session without a network.
     fn empty() -> Handle
-        ensures held { held_by result ≡ no_engine }
+        ensures held { held_by result ≡ no_session }
         ensures null { result.at ≡ null_ptr }
     {
         Handle { at: null_mut() }
     }
 
-    /// The handle of an engine.
+    /// The handle of a session state.
     fn of(loose: BoxParts<SessionState, Global>) -> Handle
         ensures { held_by result ≡ loose.value }
     {
@@ -60,9 +60,9 @@ impl Handle {
         }
     }
 
-    /// The engine of a handle, unless the handle is null.
+    /// The session state of a handle, unless the handle is null.
     fn into_box_parts(self, alloc: Global) -> Option<BoxParts<SessionState, Global>>
-        ensures { MatchOption result (held_by self ≡ no_engine) (λ loose. held_by self ≡ loose.value) }
+        ensures { MatchOption result (held_by self ≡ no_session) (λ loose. held_by self ≡ loose.value) }
     {
         let Handle { at } = self;
         if at.is_null() {
@@ -75,11 +75,11 @@ impl Handle {
         }
     }
 
-    /// Takes the engine out of a handle, which is then null. `None` if it was null before.
+    /// Takes the session state out of a handle, which is then null. `None` if it was null before.
     pub(crate) fn taken(handle: &mut Handle, alloc: Global) -> Option<Box<SessionState>>
-        ensures held { MatchOption result (held_by handle.old ≡ no_engine)
-            (λ engine. held_by handle.old ≡ engine.value) }
-        ensures left { held_by handle.new ≡ no_engine }
+        ensures held { MatchOption result (held_by handle.old ≡ no_session)
+            (λ state. held_by handle.old ≡ state.value) }
+        ensures left { held_by handle.new ≡ no_session }
         ensures null { handle.new.at ≡ null_ptr }
     {
         let held = replace(handle, Handle::empty());
@@ -89,11 +89,11 @@ impl Handle {
         }
     }
 
-    /// The engine of a handle, in place. `None` if the handle is null.
+    /// The session state of a handle, in place. `None` if the handle is null.
     pub(crate) fn session_state_mut(&mut self) -> Option<&mut SessionState>
-        ensures* writes_back { sem 𝓛 (LendsEngine self.entry result) }
-        ensures value { MatchOption result ((self.old.at ≡ null_ptr) × (held_by self.old ≡ no_engine))
-            (λ engine. engine.now ≡ held_by self.old) }
+        ensures* writes_back { sem 𝓛 (LendsSessionState self.entry result) }
+        ensures value { MatchOption result ((self.old.at ≡ null_ptr) × (held_by self.old ≡ no_session))
+            (λ state. state.now ≡ held_by self.old) }
     {
         if self.at.is_null() {
             return None;
@@ -101,12 +101,12 @@ impl Handle {
         unsafe { Some(&mut *self.at.cast::<SessionState>()) }
     }
 
-    /// Puts an engine into a null handle.
-    pub(crate) fn put(handle: &mut Handle, engine: Box<SessionState>)
+    /// Puts a session state into a null handle.
+    pub(crate) fn put(handle: &mut Handle, state: Box<SessionState>)
         requires { handle.old.at ≡ null_ptr }
-        ensures { held_by handle.new ≡ engine.value }
+        ensures { held_by handle.new ≡ state.value }
     {
-        *handle = Handle::of(BoxParts::of(engine));
+        *handle = Handle::of(BoxParts::of(state));
     }
 }
 

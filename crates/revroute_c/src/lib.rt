@@ -7,7 +7,7 @@
 
 ghost use Rattle.std.specs.Prelude.{◌≡◌, ◌<◌, ◌⊎◌, length};
 ghost use denote.RawPtr.{null_ptr};
-ghost use Rattle.revroute_c.specs.Engines.{no_engine};
+ghost use Rattle.revroute_c.specs.SessionStates.{no_session};
 ghost use Rattle.revroute_c.specs.Lending.{held_by};
 ghost use Rattle.revroute_c.specs.Replies.{IsWritten};
 ghost use Rattle.revroute_c.specs.Statuses.{REVROUTE_ANSWERED, REVROUTE_TOO_SHORT};
@@ -54,7 +54,7 @@ use std::alloc::Global;
 #[unsafe(no_mangle)]
 pub extern "C" fn revroute_close(alloc: Global, handle: &mut Handle)
     // The session then holds nothing, and its handle is null.
-    ensures none { held_by handle.new ≡ no_engine }
+    ensures none { held_by handle.new ≡ no_session }
     ensures null { handle.new.at ≡ null_ptr }
 {
     drop(Handle::taken(handle, alloc));

@@ -50,7 +50,7 @@ pub extern "C" fn revroute_answer(
         return BLANK;
     }
     match handle.session_state_mut() {
-        Some(engine) => reply(engine, alloc, line, answer, size),
+        Some(state) => reply(state, alloc, line, answer, size),
         None => reply_in_new_session(handle, alloc, line, answer, size),
     }
 }
@@ -88,7 +88,7 @@ pub extern "C" fn revroute_take(
         return TOO_SHORT;
     }
     match handle.session_state_mut() {
-        Some(engine) => take_front(engine, alloc, piece, answer, size).tell(taken),
+        Some(state) => take_front(state, alloc, piece, answer, size).tell(taken),
         None => take_in_new_session(handle, alloc, piece, answer, size).tell(taken),
     }
 }
@@ -116,7 +116,7 @@ pub extern "C" fn revroute_finish(
         return TOO_SHORT;
     }
     match handle.session_state_mut() {
-        Some(engine) => finish_line(engine, alloc, answer, size),
+        Some(state) => finish_line(state, alloc, answer, size),
         None => BLANK,
     }
 }

@@ -28,11 +28,11 @@ pub(crate) struct NodeState {
 }
 
 impl Model for NodeState {
-    ghost use Rattle.revroute_c.specs.Machines.{HeldNode};
+    ghost use Rattle.revroute_c.specs.NodeStates.{HeldNode};
 
     ghost Value = { HeldNode };
 
-    ghost use Rattle.revroute_c.specs.MachineInside.{HasCapacity, kept_in};
+    ghost use Rattle.revroute_c.specs.NodeStateInside.{HasCapacity, kept_in};
 
     ghost view = { kept_in };
 
@@ -40,7 +40,7 @@ impl Model for NodeState {
 }
 
 impl NodeState {
-    /// The machine of a node that starts.
+    /// The node state of a node that starts.
     pub(crate) fn new(alloc: Global, node: Node) -> NodeState
         requires links { node.links.items ≡ [] }
         ensures { result ≡ Some node }
@@ -122,7 +122,7 @@ impl NodeState {
         ensures held { OfNode (λ _. ⊤) ⊥ self.now }
         ensures status { result ≡ status }
     {
-        // A field has to be read, because only then the proof knows that the machine holds a node.
+        // A field has to be read, because only then the proof knows that the node state holds a node.
         let _read = self.node.state();
         status
     }

@@ -72,7 +72,7 @@ pub extern "C" fn revroute_node_open(
 ) -> u32
     // A restart by `routers_law`, with the number, start, height and policy of the call, and no links.
     ensures opened { result ≡ REVROUTE_ANSWERED
-        → OfNode (IsOpened me boot height policy.now) ⊥ handle.new.machine }
+        → OfNode (IsOpened me boot height policy.now) ⊥ handle.new.node_state }
     ensures kept { result ≢ REVROUTE_ANSWERED → handle.new ≡ handle.old }
     // Exactly for an unknown kind of rise or a height of 2^63 or more.
     ensures refused { (result ≡ REVROUTE_REFUSED) ↔ IsNoStart height policy.now }
@@ -85,8 +85,8 @@ pub extern "C" fn revroute_node_open(
         return REFUSED;
     };
     match Box::new(alloc, NodeState::new(alloc, node)) {
-        Ok(machine) => {
-            NodeHandle::put(handle, alloc, machine);
+        Ok(node_state) => {
+            NodeHandle::put(handle, alloc, node_state);
             ANSWERED
         }
         Err(_) => NO_MEMORY,
@@ -103,14 +103,14 @@ pub extern "C" fn revroute_node_open_gateway(
     boot: u64,
 ) -> u32
     // A restart by `routers_law`, with the number and the start of the call, and no links.
-    ensures opened { result ≡ REVROUTE_ANSWERED → OfNode (IsOpenedGateway me boot) ⊥ handle.new.machine }
+    ensures opened { result ≡ REVROUTE_ANSWERED → OfNode (IsOpenedGateway me boot) ⊥ handle.new.node_state }
     ensures kept { result ≢ REVROUTE_ANSWERED → handle.new ≡ handle.old }
     ensures status { (result ≡ REVROUTE_ANSWERED) ⊎ (result ≡ REVROUTE_NO_MEMORY) }
 {
     let node = Node::gateway(alloc, me, boot);
     match Box::new(alloc, NodeState::new(alloc, node)) {
-        Ok(machine) => {
-            NodeHandle::put(handle, alloc, machine);
+        Ok(node_state) => {
+            NodeHandle::put(handle, alloc, node_state);
             ANSWERED
         }
         Err(_) => NO_MEMORY,
@@ -129,11 +129,11 @@ pub extern "C" fn revroute_node_open_gateway(
 pub extern "C" fn revroute_node_know(handle: &mut NodeHandle, neighbour: u32, cost: u32) -> u32
     // `REFUSED` exactly for the router itself or the cost 0, with memory or without.
     ensures known { InNode (KnowsNeighbour neighbour cost result) (result ≡ REVROUTE_NO_NETWORK)
-        handle.old.machine handle.new.machine }
+        handle.old.node_state handle.new.node_state }
     ensures same_handle { handle.new.at ≡ handle.old.at }
 {
     match handle.node_state_mut() {
-        Some(machine) => machine.know(neighbour, cost),
+        Some(node_state) => node_state.know(neighbour, cost),
         None => NO_NETWORK,
     }
 }
@@ -145,11 +145,11 @@ pub extern "C" fn revroute_node_know(handle: &mut NodeHandle, neighbour: u32, co
 pub extern "C" fn revroute_node_link_up(handle: &mut NodeHandle, neighbour: u32) -> u32
     // The link is then up, and nothing else that is known of links changes. The call is a step of `routers_law`.
     ensures up { InNode (TurnsLink neighbour true result) (result ≡ REVROUTE_NO_NETWORK)
-        handle.old.machine handle.new.machine }
+        handle.old.node_state handle.new.node_state }
     ensures same_handle { handle.new.at ≡ handle.old.at }
 {
     match handle.node_state_mut() {
-        Some(machine) => machine.set_link_state(neighbour, true),
+        Some(node_state) => node_state.set_link_state(neighbour, true),
         None => NO_NETWORK,
     }
 }
@@ -159,11 +159,11 @@ pub extern "C" fn revroute_node_link_up(handle: &mut NodeHandle, neighbour: u32)
 pub extern "C" fn revroute_node_link_down(handle: &mut NodeHandle, neighbour: u32) -> u32
     // As for `revroute_node_link_up`, but the link is then down.
     ensures down { InNode (TurnsLink neighbour false result) (result ≡ REVROUTE_NO_NETWORK)
-        handle.old.machine handle.new.machine }
+        handle.old.node_state handle.new.node_state }
     ensures same_handle { handle.new.at ≡ handle.old.at }
 {
     match handle.node_state_mut() {
-        Some(machine) => machine.set_link_state(neighbour, false),
+        Some(node_state) => node_state.set_link_state(neighbour, false),
         None => NO_NETWORK,
     }
 }
@@ -181,11 +181,11 @@ pub extern "C" fn revroute_node_set_cost(handle: &mut NodeHandle, neighbour: u32
     // `REFUSED` exactly for the cost 0. Otherwise the link has this cost, nothing else that is known of links changes,
     // and the call is a step of `routers_law`.
     ensures cost { InNode (SetsCostTo neighbour cost result) (result ≡ REVROUTE_NO_NETWORK)
-        handle.old.machine handle.new.machine }
+        handle.old.node_state handle.new.node_state }
     ensures same_handle { handle.new.at ≡ handle.old.at }
 {
     match handle.node_state_mut() {
-        Some(machine) => machine.set_cost(neighbour, cost),
+        Some(node_state) => node_state.set_cost(neighbour, cost),
         None => NO_NETWORK,
     }
 }
@@ -197,11 +197,11 @@ pub extern "C" fn revroute_node_set_cost(handle: &mut NodeHandle, neighbour: u32
 #[unsafe(no_mangle)]
 pub extern "C" fn revroute_node_tick(handle: &mut NodeHandle, patience: u32) -> u32
     // 1 exactly if a link was lost, which is an event, and 0 otherwise.
-    ensures ticks { InNode (TicksOnce patience result) (result ≡ 0) handle.old.machine handle.new.machine }
+    ensures ticks { InNode (TicksOnce patience result) (result ≡ 0) handle.old.node_state handle.new.node_state }
     ensures same_handle { handle.new.at ≡ handle.old.at }
 {
     match handle.node_state_mut() {
-        Some(machine) => machine.tick(patience),
+        Some(node_state) => node_state.tick(patience),
         None => 0,
     }
 }
@@ -213,11 +213,11 @@ pub extern "C" fn revroute_node_tick(handle: &mut NodeHandle, patience: u32) -> 
 #[unsafe(no_mangle)]
 pub extern "C" fn revroute_node_act(handle: &mut NodeHandle) -> u32
     // 1 exactly if that has changed something, and 0 otherwise; then nothing has changed.
-    ensures acts { InNode (ActsAgain result) (result ≡ 0) handle.old.machine handle.new.machine }
+    ensures acts { InNode (ActsAgain result) (result ≡ 0) handle.old.node_state handle.new.node_state }
     ensures same_handle { handle.new.at ≡ handle.old.at }
 {
     match handle.node_state_mut() {
-        Some(machine) => machine.act(),
+        Some(node_state) => node_state.act(),
         None => 0,
     }
 }
@@ -238,11 +238,11 @@ pub extern "C" fn revroute_node_hear(handle: &mut NodeHandle, bytes: &[u8]) -> u
     // As by `Node::hear`, so the call is a step of `routers_law`. A message that the node does not take changes
     // nothing. `NO_MESSAGE` exactly for bytes that are not a message, `LATER_START` exactly as by `Node::hear`.
     ensures heard { InNode (HearsBytes bytes.now result) (result ≡ REVROUTE_NO_NETWORK)
-        handle.old.machine handle.new.machine }
+        handle.old.node_state handle.new.node_state }
     ensures same_handle { handle.new.at ≡ handle.old.at }
 {
     match handle.node_state_mut() {
-        Some(machine) => machine.hear(bytes),
+        Some(node_state) => node_state.hear(bytes),
         None => NO_NETWORK,
     }
 }
@@ -258,11 +258,11 @@ pub extern "C" fn revroute_node_hear(handle: &mut NodeHandle, bytes: &[u8]) -> u
 pub extern "C" fn revroute_node_written(handle: &mut NodeHandle, state: u64) -> u32
     // `OUTDATED` exactly if an event came after the ways and gates with that number.
     ensures written { InNode (ConfirmsWritten state result) (result ≡ REVROUTE_NO_NETWORK)
-        handle.old.machine handle.new.machine }
+        handle.old.node_state handle.new.node_state }
     ensures same_handle { handle.new.at ≡ handle.old.at }
 {
     match handle.node_state_mut() {
-        Some(machine) => machine.written(state),
+        Some(node_state) => node_state.written(state),
         None => NO_NETWORK,
     }
 }
@@ -288,12 +288,12 @@ pub extern "C" fn revroute_node_say(
     // that is too short, under 64 bytes.
     ensures says { InNode (SaysBytesTo neighbour (outcome result message.old message.new size.new))
         ((result ≡ REVROUTE_NO_NETWORK) × (message.new ≡ message.old) × (size.new ≡ 0))
-        handle.old.machine handle.new.machine }
+        handle.old.node_state handle.new.node_state }
     ensures same_handle { handle.new.at ≡ handle.old.at }
 {
     *size = 0;
     match handle.node_state_mut() {
-        Some(machine) => machine.say(neighbour, message, size),
+        Some(node_state) => node_state.say(neighbour, message, size),
         None => NO_NETWORK,
     }
 }
@@ -314,11 +314,11 @@ pub extern "C" fn revroute_node_has_news(
     // A message is news if it differs from the last one that the node said by more than its stamp. There is no news
     // before ways and gates are written.
     ensures news { OfNode (TellsNews neighbour result news.old news.new)
-        ((result ≡ REVROUTE_NO_NETWORK) × (news.new ≡ news.old)) handle.old.machine }
+        ((result ≡ REVROUTE_NO_NETWORK) × (news.new ≡ news.old)) handle.old.node_state }
     ensures same { IsSameNode handle.old handle.new }
 {
     match handle.node_state_mut() {
-        Some(machine) => machine.tell_news(neighbour, news),
+        Some(node_state) => node_state.tell_news(neighbour, news),
         None => NO_NETWORK,
     }
 }
@@ -339,15 +339,15 @@ pub extern "C" fn revroute_node_ways(
     state: &mut u64,
 ) -> u32
     ensures same { IsSameNode handle.old handle.new }
-    ensures gives { GivesList (AreWaysOf handle.old.machine) (outcome result ways.old ways.new size.new) }
+    ensures gives { GivesList (AreWaysOf handle.old.node_state) (outcome result ways.old ways.new size.new) }
     // The number that confirms them.
-    ensures state { IsStateOf handle.old.machine state.old state.new }
-    ensures no_network { (result ≡ REVROUTE_NO_NETWORK) ↔ (handle.old.machine ≡ None) }
+    ensures state { IsStateOf handle.old.node_state state.old state.new }
+    ensures no_network { (result ≡ REVROUTE_NO_NETWORK) ↔ (handle.old.node_state ≡ None) }
     ensures status { (result ≡ REVROUTE_ANSWERED) ⊎ (result ≡ REVROUTE_TOO_SHORT) ⊎ (result ≡ REVROUTE_NO_NETWORK) }
 {
     *size = 0;
     match handle.node_state_mut() {
-        Some(machine) => machine.list_ways(ways, size, state),
+        Some(node_state) => node_state.list_ways(ways, size, state),
         None => NO_NETWORK,
     }
 }
@@ -362,15 +362,15 @@ pub extern "C" fn revroute_node_gates(
     state: &mut u64,
 ) -> u32
     ensures same { IsSameNode handle.old handle.new }
-    ensures gives { GivesList (AreGatesOf handle.old.machine) (outcome result gates.old gates.new size.new) }
+    ensures gives { GivesList (AreGatesOf handle.old.node_state) (outcome result gates.old gates.new size.new) }
     // The number that confirms them.
-    ensures state { IsStateOf handle.old.machine state.old state.new }
-    ensures no_network { (result ≡ REVROUTE_NO_NETWORK) ↔ (handle.old.machine ≡ None) }
+    ensures state { IsStateOf handle.old.node_state state.old state.new }
+    ensures no_network { (result ≡ REVROUTE_NO_NETWORK) ↔ (handle.old.node_state ≡ None) }
     ensures status { (result ≡ REVROUTE_ANSWERED) ⊎ (result ≡ REVROUTE_TOO_SHORT) ⊎ (result ≡ REVROUTE_NO_NETWORK) }
 {
     *size = 0;
     match handle.node_state_mut() {
-        Some(machine) => machine.list_gates(gates, size, state),
+        Some(node_state) => node_state.list_gates(gates, size, state),
         None => NO_NETWORK,
     }
 }
@@ -386,11 +386,11 @@ pub extern "C" fn revroute_node_gates(
 pub extern "C" fn revroute_node_distance(handle: &mut NodeHandle, distance: &mut u32) -> u32
     // `NO_ROUTE` only without a distance.
     ensures distance { OfNode (TellsNodeDistance result distance.old distance.new)
-        ((result ≡ REVROUTE_NO_NETWORK) × (distance.new ≡ distance.old)) handle.old.machine }
+        ((result ≡ REVROUTE_NO_NETWORK) × (distance.new ≡ distance.old)) handle.old.node_state }
     ensures same { IsSameNode handle.old handle.new }
 {
     match handle.node_state_mut() {
-        Some(machine) => machine.tell_distance(distance),
+        Some(node_state) => node_state.tell_distance(distance),
         None => NO_NETWORK,
     }
 }
@@ -399,12 +399,12 @@ pub extern "C" fn revroute_node_distance(handle: &mut NodeHandle, distance: &mut
 #[unsafe(no_mangle)]
 pub extern "C" fn revroute_node_height(handle: &mut NodeHandle, height: &mut u64) -> u32
     ensures height { OfNode (λ k. (result ≡ REVROUTE_ANSWERED) × (height.new ≡ k.own.used))
-        ((result ≡ REVROUTE_NO_NETWORK) × (height.new ≡ height.old)) handle.old.machine }
+        ((result ≡ REVROUTE_NO_NETWORK) × (height.new ≡ height.old)) handle.old.node_state }
     ensures same { IsSameNode handle.old handle.new }
 {
     match handle.node_state_mut() {
-        Some(machine) => {
-            *height = machine.height();
+        Some(node_state) => {
+            *height = node_state.height();
             ANSWERED
         }
         None => NO_NETWORK,
@@ -414,13 +414,13 @@ pub extern "C" fn revroute_node_height(handle: &mut NodeHandle, height: &mut u64
 /// Returns 1 if packets from a neighbour are let in, and 0 if they are to be dropped, as for a null handle. O(d).
 #[unsafe(no_mangle)]
 pub extern "C" fn revroute_node_lets_in(handle: &mut NodeHandle, neighbour: u32) -> u32
-    ensures open { OfNode (λ k. result ≡ number_of_flag (lets_in k neighbour)) (result ≡ 0) handle.old.machine }
+    ensures open { OfNode (λ k. result ≡ number_of_flag (lets_in k neighbour)) (result ≡ 0) handle.old.node_state }
     // An open gate is one of `routers_law`.
-    ensures safe { OfNode (IsSafeGate neighbour result) ⊤ handle.old.machine }
+    ensures safe { OfNode (IsSafeGate neighbour result) ⊤ handle.old.node_state }
     ensures same { IsSameNode handle.old handle.new }
 {
     match handle.node_state_mut() {
-        Some(machine) => machine.lets_in(neighbour),
+        Some(node_state) => node_state.lets_in(neighbour),
         None => 0,
     }
 }
@@ -428,13 +428,13 @@ pub extern "C" fn revroute_node_lets_in(handle: &mut NodeHandle, neighbour: u32)
 /// Returns 1 if packets may be sent to a neighbour, and 0 otherwise, as for a null handle. O(d).
 #[unsafe(no_mangle)]
 pub extern "C" fn revroute_node_sends_to(handle: &mut NodeHandle, neighbour: u32) -> u32
-    ensures way { OfNode (λ k. result ≡ number_of_flag (sends_to k neighbour)) (result ≡ 0) handle.old.machine }
+    ensures way { OfNode (λ k. result ≡ number_of_flag (sends_to k neighbour)) (result ≡ 0) handle.old.node_state }
     // A way is one of `routers_law`.
-    ensures safe { OfNode (IsSafeWay neighbour result) ⊤ handle.old.machine }
+    ensures safe { OfNode (IsSafeWay neighbour result) ⊤ handle.old.node_state }
     ensures same { IsSameNode handle.old handle.new }
 {
     match handle.node_state_mut() {
-        Some(machine) => machine.sends_to(neighbour),
+        Some(node_state) => node_state.sends_to(neighbour),
         None => 0,
     }
 }
@@ -442,7 +442,7 @@ pub extern "C" fn revroute_node_sends_to(handle: &mut NodeHandle, neighbour: u32
 /// Closes a node. The handle is then null. O(1).
 #[unsafe(no_mangle)]
 pub extern "C" fn revroute_node_close(alloc: Global, handle: &mut NodeHandle)
-    ensures none { handle.new.machine ≡ None }
+    ensures none { handle.new.node_state ≡ None }
     ensures null { handle.new.at ≡ null_ptr }
 {
     drop(NodeHandle::taken(handle, alloc));

@@ -37,7 +37,7 @@ impl Taken {
 /// Takes a piece up to its first newline, and answers the line that ends there. Without a newline, the whole piece is
 /// kept after what had begun. `size` must be 0.
 pub(crate) fn take_front(
-    engine: &mut SessionState,
+    state: &mut SessionState,
     alloc: Global,
     piece: &[u8],
     answer: &mut [u8],
@@ -45,20 +45,20 @@ pub(crate) fn take_front(
 ) -> Taken
     requires room { least_room ≤ length answer.old }
     requires size { size.old ≡ 0 }
-    ensures { TakesPiece piece.now engine.old engine.new result.count
+    ensures { TakesPiece piece.now state.old state.new result.count
         (outcome result.status answer.old answer.new size.new) }
 {
-    let kept = engine.begun.len();
+    let kept = state.begun.len();
     let end = front_size(piece);
     // This comes before the line is kept, so that a blank line allocates nothing.
-    if end < piece.len() && is_blank_with(&engine.begun, &piece[..end]) {
-        engine.begun.clear();
+    if end < piece.len() && is_blank_with(&state.begun, &piece[..end]) {
+        state.begun.clear();
         return Taken {
             status: BLANK,
             count: end + 1,
         };
     }
-    let held = keep_unfinished_line(&mut engine.begun, &piece[..end]);
+    let held = keep_unfinished_line(&mut state.begun, &piece[..end]);
     if held != BEGUN {
         return Taken {
             status: held,
@@ -71,9 +71,9 @@ pub(crate) fn take_front(
             count: end,
         };
     }
-    let status = finish_line(engine, alloc, answer, size);
+    let status = finish_line(state, alloc, answer, size);
     if status > BLANK {
-        engine.begun.truncate(kept);
+        state.begun.truncate(kept);
         return Taken { status, count: 0 };
     }
     Taken {
@@ -104,41 +104,41 @@ pub(crate) fn take_in_new_session(
             count: end + 1,
         };
     }
-    let Ok(mut engine) = Box::new(alloc, SessionState::new(alloc)) else {
+    let Ok(mut state) = Box::new(alloc, SessionState::new(alloc)) else {
         return Taken {
             status: NO_MEMORY,
             count: 0,
         };
     };
-    let taken = take_front(&mut engine, alloc, piece, answer, size);
+    let taken = take_front(&mut state, alloc, piece, answer, size);
     if taken.status == ANSWERED || taken.status == BEGUN {
-        Handle::put(handle, engine);
+        Handle::put(handle, state);
     }
     taken
 }
 
 /// Ends the line that has begun, and answers it. The line stays if it cannot be answered.
 pub(crate) fn finish_line(
-    engine: &mut SessionState,
+    state: &mut SessionState,
     alloc: Global,
     answer: &mut [u8],
     size: &mut usize,
 ) -> u32
     requires room { least_room ≤ length answer.old }
     requires size { size.old ≡ 0 }
-    ensures answers { AnswersLine engine.old.begun engine.old engine.new
+    ensures answers { AnswersLine state.old.begun state.old state.new
         (outcome result answer.old answer.new size.new) }
-    ensures ended { result ≤ BLANK → engine.new.begun ≡ [] }
-    ensures still { BLANK < result → engine.new.begun ≡ engine.old.begun }
+    ensures ended { result ≤ BLANK → state.new.begun ≡ [] }
+    ensures still { BLANK < result → state.new.begun ≡ state.old.begun }
 {
-    if is_blank(&engine.begun) {
-        engine.begun.clear();
+    if is_blank(&state.begun) {
+        state.begun.clear();
         return BLANK;
     }
-    let line = replace(&mut engine.begun, Vec::new(alloc));
-    let status = reply(engine, alloc, &line, answer, size);
+    let line = replace(&mut state.begun, Vec::new(alloc));
+    let status = reply(state, alloc, &line, answer, size);
     if status != ANSWERED {
-        engine.begun = line;
+        state.begun = line;
     }
     status
 }

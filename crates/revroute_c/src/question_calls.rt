@@ -33,7 +33,7 @@ pub extern "C" fn revroute_next_hop(handle: &mut Handle, node: u32) -> u32
     ensures same { IsUnchanged handle.old handle.new }
 {
     match handle.session_state_mut() {
-        Some(engine) => hop_in(engine.session(), node),
+        Some(state) => hop_in(state.session(), node),
         None => HOP_OF_NO_NETWORK,
     }
 }
@@ -51,7 +51,7 @@ pub extern "C" fn revroute_hops(handle: &mut Handle, hops: &mut [u32], size: &mu
 {
     *size = 0;
     match handle.session_state_mut() {
-        Some(engine) => hops_in(engine.session(), hops, size),
+        Some(state) => hops_in(state.session(), hops, size),
         None => NO_NETWORK,
     }
 }
@@ -69,13 +69,13 @@ pub extern "C" fn revroute_changed(handle: &mut Handle, nodes: &mut [u32], size:
     ensures status { (result ≡ REVROUTE_ANSWERED) ⊎ (result ≡ REVROUTE_TOO_SHORT) ⊎ (result ≡ REVROUTE_NO_NETWORK) }
 {
     *size = 0;
-    let Some(engine) = handle.session_state_mut() else {
+    let Some(state) = handle.session_state_mut() else {
         return NO_NETWORK;
     };
-    if engine.session().router().is_none() {
+    if state.session().router().is_none() {
         return NO_NETWORK;
     }
-    hand_out(engine.published.rerouted(), nodes, size)
+    hand_out(state.published.rerouted(), nodes, size)
 }
 
 /// Writes the nodes whose hop differs from that in the caller's table to the front of `nodes`, in push order, and their
@@ -108,7 +108,7 @@ pub extern "C" fn revroute_pushes(
 {
     *size = 0;
     match handle.session_state_mut() {
-        Some(engine) => pushes_in(engine.session(), alloc, table, nodes, size),
+        Some(state) => pushes_in(state.session(), alloc, table, nodes, size),
         None => NO_NETWORK,
     }
 }
@@ -156,7 +156,7 @@ pub extern "C" fn revroute_counts(handle: &mut Handle, counts: &mut [u64], size:
 {
     *size = 0;
     match handle.session_state_mut() {
-        Some(engine) => counts_in(engine.session(), counts, size),
+        Some(state) => counts_in(state.session(), counts, size),
         None => NO_NETWORK,
     }
 }
@@ -189,7 +189,7 @@ pub extern "C" fn revroute_walk(
 {
     *size = 0;
     match handle.session_state_mut() {
-        Some(engine) => walk_in(engine.session(), alloc, node, nodes, size),
+        Some(state) => walk_in(state.session(), alloc, node, nodes, size),
         None => NO_NETWORK,
     }
 }
@@ -216,7 +216,7 @@ pub extern "C" fn revroute_links(
 {
     *size = 0;
     match handle.session_state_mut() {
-        Some(engine) => links_in(engine.session(), alloc, links, size),
+        Some(state) => links_in(state.session(), alloc, links, size),
         None => NO_NETWORK,
     }
 }
@@ -238,7 +238,7 @@ pub extern "C" fn revroute_report(handle: &mut Handle, round: &mut Round) -> u32
         cut_off: 0,
     };
     match handle.session_state_mut() {
-        Some(engine) => report_in(engine.session(), round),
+        Some(state) => report_in(state.session(), round),
         None => NO_NETWORK,
     }
 }
@@ -250,7 +250,7 @@ pub extern "C" fn revroute_dest(handle: &mut Handle) -> u32
     ensures same { IsUnchanged handle.old handle.new }
 {
     match handle.session_state_mut() {
-        Some(engine) => dest_in(engine.session()),
+        Some(state) => dest_in(state.session()),
         None => HOP_OF_NO_NETWORK,
     }
 }
@@ -270,7 +270,7 @@ pub extern "C" fn revroute_size(handle: &mut Handle, nodes: &mut u32, links: &mu
     *nodes = 0;
     *links = 0;
     match handle.session_state_mut() {
-        Some(engine) => size_in(engine.session(), nodes, links),
+        Some(state) => size_in(state.session(), nodes, links),
         None => NO_NETWORK,
     }
 }

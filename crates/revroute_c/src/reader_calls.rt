@@ -45,7 +45,7 @@ pub extern "C" fn revroute_reader_open(
     ensures status { (result ≡ REVROUTE_ANSWERED) ⊎ (result ≡ REVROUTE_NO_MEMORY) }
 {
     let opened = match handle.session_state_mut() {
-        Some(engine) => reader_in(engine, alloc),
+        Some(state) => reader_in(state, alloc),
         None => reader_of_new_session(handle, alloc),
     };
     match opened {

@@ -10,13 +10,13 @@ use fr_shared::Reader;
 use std::alloc::{AllocError, Global};
 
 /// A reader of the session's hops.
-pub(crate) fn reader_in(engine: &mut SessionState, alloc: Global) -> Result<Box<Reader>, AllocError>
-    ensures opens { OpensTable engine.old engine.new }
-    ensures reader { IfOk result (λ reader. ReadsTableOf engine.new reader.value) }
+pub(crate) fn reader_in(state: &mut SessionState, alloc: Global) -> Result<Box<Reader>, AllocError>
+    ensures opens { OpensTable state.old state.new }
+    ensures reader { IfOk result (λ reader. ReadsTableOf state.new reader.value) }
 {
-    engine.published.table_law();
-    let reader = engine.published.reader(alloc)?;
-    engine.published.table_law();
+    state.published.table_law();
+    let reader = state.published.reader(alloc)?;
+    state.published.table_law();
     Ok(Box::new(alloc, reader)?)
 }
 
@@ -30,8 +30,8 @@ pub(crate) fn reader_of_new_session(
     ensures reader { IfOk result (λ reader. ReadsTableOf (held_by handle.new) reader.value) }
     ensures kept { OnErr result (handle.new ≡ handle.old) }
 {
-    let mut engine = Box::new(alloc, SessionState::new(alloc))?;
-    let reader = reader_in(&mut engine, alloc)?;
-    Handle::put(handle, engine);
+    let mut state = Box::new(alloc, SessionState::new(alloc))?;
+    let reader = reader_in(&mut state, alloc)?;
+    Handle::put(handle, state);
     Ok(reader)
 }

@@ -33,7 +33,7 @@ pub(crate) fn hand_out<T: Copy>(items: &[T], buffer: &mut [T], size: &mut usize)
 /// Answers a line that is not blank, in a buffer of at least [`LEAST_ROOM`] bytes. `size` must be 0, and stays 0 if
 /// there is no memory.
 pub(crate) fn reply(
-    engine: &mut SessionState,
+    state: &mut SessionState,
     alloc: Global,
     line: &[u8],
     answer: &mut [u8],
@@ -42,10 +42,10 @@ pub(crate) fn reply(
     requires asks { is_blank line.now ≡ false }
     requires room { least_room ≤ length answer.old }
     requires size { size.old ≡ 0 }
-    ensures answers { AnswersApart line.now engine.old engine.new (outcome result answer.old answer.new size.new) }
+    ensures answers { AnswersApart line.now state.old state.new (outcome result answer.old answer.new size.new) }
     ensures not_blank { result ≢ BLANK }
 {
-    match engine.published.answer_line(alloc, line) {
+    match state.published.answer_line(alloc, line) {
         Ok(Some(text)) => hand_out(text.as_bytes(), answer, size),
         Err(AnswerFault::Memory) => NO_MEMORY,
         Ok(None) | Err(AnswerFault::Start) => unreachable!(),
@@ -68,12 +68,12 @@ pub(crate) fn reply_in_new_session(
         (outcome result answer.old answer.new size.new) }
     ensures kept { ¬ (result ≡ ANSWERED) → handle.new ≡ handle.old }
 {
-    let Ok(mut engine) = Box::new(alloc, SessionState::new(alloc)) else {
+    let Ok(mut state) = Box::new(alloc, SessionState::new(alloc)) else {
         return NO_MEMORY;
     };
-    let status = reply(&mut engine, alloc, line, answer, size);
+    let status = reply(&mut state, alloc, line, answer, size);
     if status == ANSWERED {
-        Handle::put(handle, engine);
+        Handle::put(handle, state);
     }
     status
 }

@@ -61,7 +61,7 @@ pub extern "C" fn revroute_open(
     }
     let asked = NewNetwork { nodes, dest, links };
     match handle.session_state_mut() {
-        Some(engine) => open_in(engine, alloc, &asked, round, refusal),
+        Some(state) => open_in(state, alloc, &asked, round, refusal),
         None => open_in_new_session(handle, alloc, &asked, round, refusal),
     }
 }
@@ -108,12 +108,12 @@ pub extern "C" fn revroute_change(
         return REFUSED;
     }
     match handle.session_state_mut() {
-        Some(engine) => {
+        Some(state) => {
             let asked = NewEdits {
                 edits,
                 with_ways: false,
             };
-            change_in(engine, alloc, &asked, round, refusal)
+            change_in(state, alloc, &asked, round, refusal)
         }
         None => NO_NETWORK,
     }
@@ -154,12 +154,12 @@ pub extern "C" fn revroute_change_with_ways(
         return REFUSED;
     }
     match handle.session_state_mut() {
-        Some(engine) => {
+        Some(state) => {
             let asked = NewEdits {
                 edits,
                 with_ways: true,
             };
-            change_in(engine, alloc, &asked, round, refusal)
+            change_in(state, alloc, &asked, round, refusal)
         }
         None => NO_NETWORK,
     }
@@ -187,7 +187,7 @@ pub extern "C" fn revroute_move_dest(
         ⊎ (result ≡ REVROUTE_REFUSED) }
 {
     match handle.session_state_mut() {
-        Some(engine) => move_dest_in(engine, alloc, dest, round, refusal),
+        Some(state) => move_dest_in(state, alloc, dest, round, refusal),
         None => NO_NETWORK,
     }
 }

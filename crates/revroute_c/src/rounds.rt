@@ -122,16 +122,16 @@ pub(crate) fn refuse_links(refusal: &mut Refusal, fault: &NetFault) -> u32
 
 /// Replaces the network, and lists the nodes whose hop has changed.
 pub(crate) fn open_in(
-    engine: &mut SessionState,
+    state: &mut SessionState,
     alloc: Global,
     asked: &NewNetwork,
     round: &mut Round,
     refusal: &mut Refusal,
 ) -> u32
     ensures begins { BeginsRound (new_network asked.now.nodes asked.now.dest (map link_of asked.now.links.now))
-        (IsNewRefused asked.now.nodes asked.now.dest (map link_of asked.now.links.now)) engine.old engine.new
+        (IsNewRefused asked.now.nodes asked.now.dest (map link_of asked.now.links.now)) state.old state.new
         (round_outcome result round.old round.new refusal.old refusal.new) }
-    ensures pushes { engine.new.pushes ≡ engine.old.pushes }
+    ensures pushes { state.new.pushes ≡ state.old.pushes }
     ensures status { (result ≡ ANSWERED) ⊎ (result ≡ NO_MEMORY) ⊎ (result ≡ REFUSED) }
 {
     let router = match asked.open_router(alloc) {
@@ -140,7 +140,7 @@ pub(crate) fn open_in(
         Err(fault) => return refuse_links(refusal, &fault),
     };
     let report = router.report();
-    if engine.published.put_router(alloc, router).is_err() {
+    if state.published.put_router(alloc, router).is_err() {
         return NO_MEMORY;
     }
     *round = round_of(report);
@@ -165,12 +165,12 @@ pub(crate) fn open_in_new_session(
     ensures kept { ¬ (result ≡ ANSWERED) → handle.new ≡ handle.old }
     ensures status { (result ≡ ANSWERED) ⊎ (result ≡ NO_MEMORY) ⊎ (result ≡ REFUSED) }
 {
-    let Ok(mut engine) = Box::new(alloc, SessionState::new(alloc)) else {
+    let Ok(mut state) = Box::new(alloc, SessionState::new(alloc)) else {
         return NO_MEMORY;
     };
-    let status = open_in(&mut engine, alloc, asked, round, refusal);
+    let status = open_in(&mut state, alloc, asked, round, refusal);
     if status == ANSWERED {
-        Handle::put(handle, engine);
+        Handle::put(handle, state);
     }
     status
 }
@@ -237,7 +237,7 @@ fn change_published(
 
 /// Makes edits of known kinds, with one round after the last, and lists the nodes that it reroutes.
 pub(crate) fn change_in(
-    engine: &mut SessionState,
+    state: &mut SessionState,
     alloc: Global,
     asked: &NewEdits<'_>,
     round: &mut Round,
@@ -245,14 +245,14 @@ pub(crate) fn change_in(
 ) -> u32
     requires { AreKnown asked.now.edits.now }
     ensures begins { BeginsRound (make_edits (map edit_of asked.now.edits.now))
-        (IsChangeRefused engine.old.session asked.now.edits.now) engine.old engine.new
+        (IsChangeRefused state.old.session asked.now.edits.now) state.old state.new
         (round_outcome result round.old round.new refusal.old refusal.new) }
-    ensures pushes { KeepsPushes asked.now.with_ways result engine.old engine.new }
-    ensures no_network { (result ≡ NO_NETWORK) ↔ (engine.old.session ≡ None) }
+    ensures pushes { KeepsPushes asked.now.with_ways result state.old state.new }
+    ensures no_network { (result ≡ NO_NETWORK) ↔ (state.old.session ≡ None) }
     ensures no_memory { result ≡ NO_MEMORY → length asked.now.edits.now ≤ most_edits }
     ensures status { (result ≡ ANSWERED) ⊎ (result ≡ NO_MEMORY) ⊎ (result ≡ NO_NETWORK) ⊎ (result ≡ REFUSED) }
 {
-    if engine.session().router().is_none() {
+    if state.session().router().is_none() {
         return NO_NETWORK;
     }
     let edits = asked.edits;
@@ -264,7 +264,7 @@ pub(crate) fn change_in(
         return NO_MEMORY;
     };
     let change = Change::Batch(made);
-    match change_published(&mut engine.published, alloc, change, asked.with_ways) {
+    match change_published(&mut state.published, alloc, change, asked.with_ways) {
         Some(Ok(report)) => {
             *round = round_of(report);
             ANSWERED
@@ -276,27 +276,27 @@ pub(crate) fn change_in(
 
 /// Moves the destination, with one round after it, and lists the nodes that it reroutes.
 pub(crate) fn move_dest_in(
-    engine: &mut SessionState,
+    state: &mut SessionState,
     alloc: Global,
     dest: u32,
     round: &mut Round,
     refusal: &mut Refusal,
 ) -> u32
-    ensures begins { BeginsRound (move_dest dest) (IsMoveRefused engine.old.session dest) engine.old engine.new
+    ensures begins { BeginsRound (move_dest dest) (IsMoveRefused state.old.session dest) state.old state.new
         (round_outcome result round.old round.new refusal.old refusal.new) }
-    ensures pushes { engine.new.pushes ≡ engine.old.pushes }
-    ensures no_network { (result ≡ NO_NETWORK) ↔ (engine.old.session ≡ None) }
-    ensures no_memory { result ≡ NO_MEMORY → IfSome engine.old.session (λ s. dest < s.nodes) }
+    ensures pushes { state.new.pushes ≡ state.old.pushes }
+    ensures no_network { (result ≡ NO_NETWORK) ↔ (state.old.session ≡ None) }
+    ensures no_memory { result ≡ NO_MEMORY → IfSome state.old.session (λ s. dest < s.nodes) }
     ensures status { (result ≡ ANSWERED) ⊎ (result ≡ NO_MEMORY) ⊎ (result ≡ NO_NETWORK) ⊎ (result ≡ REFUSED) }
 {
-    let Some(router) = engine.session().router() else {
+    let Some(router) = state.session().router() else {
         return NO_NETWORK;
     };
     if dest >= router.net().nodes() {
         *refusal = refusal_for(0, &NetFault::Range(dest), (dest, dest));
         return REFUSED;
     }
-    match engine.published.change(alloc, Change::Destination { dest }) {
+    match state.published.change(alloc, Change::Destination { dest }) {
         Some(Ok(report)) => {
             *round = round_of(report);
             ANSWERED

@@ -1,7 +1,7 @@
 //! What the handle of a session points to.
 
 ghost use Rattle.std.specs.Prelude.{◌≡◌};
-ghost use Rattle.revroute_c.specs.Engines.{no_engine};
+ghost use Rattle.revroute_c.specs.SessionStates.{no_session};
 
 use fr_readers::PublishedSession;
 use fr_route::Session;
@@ -20,19 +20,19 @@ pub(crate) struct SessionState {
 }
 
 impl Model for SessionState {
-    ghost use Rattle.revroute_c.specs.Engines.{Held};
+    ghost use Rattle.revroute_c.specs.SessionStates.{Held};
 
     ghost Value = { Held };
 
-    ghost use Rattle.revroute_c.specs.EngineInside.{held_in};
+    ghost use Rattle.revroute_c.specs.SessionStateInside.{held_in};
 
     ghost view = { held_in };
 }
 
 impl SessionState {
-    /// An engine without a network, which holds no memory.
+    /// A session state without a network, which holds no memory.
     pub(crate) fn new(alloc: Global) -> SessionState
-        ensures { result ≡ no_engine }
+        ensures { result ≡ no_session }
     {
         SessionState {
             published: PublishedSession::new(alloc),

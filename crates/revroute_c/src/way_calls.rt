@@ -42,7 +42,7 @@ pub extern "C" fn revroute_ways(
 {
     *size = 0;
     match handle.session_state_mut() {
-        Some(engine) => ways_in(&mut engine.published, &mut engine.ways, node, ways, size),
+        Some(state) => ways_in(&mut state.published, &mut state.ways, node, ways, size),
         None => NO_NETWORK,
     }
 }
@@ -57,7 +57,7 @@ pub extern "C" fn revroute_distance(handle: &mut Handle, node: u32) -> u32
     ensures same { IsUnchanged handle.old handle.new }
 {
     match handle.session_state_mut() {
-        Some(engine) => distance_in(&mut engine.published, node),
+        Some(state) => distance_in(&mut state.published, node),
         None => HOP_OF_NO_NETWORK,
     }
 }
@@ -85,7 +85,7 @@ pub extern "C" fn revroute_nearest(
 {
     *size = 0;
     match handle.session_state_mut() {
-        Some(engine) => nearest_in(&mut engine.published, alloc, node, nodes, size),
+        Some(state) => nearest_in(&mut state.published, alloc, node, nodes, size),
         None => NO_NETWORK,
     }
 }
@@ -117,7 +117,7 @@ pub extern "C" fn revroute_all_ways(
 {
     *size = 0;
     match handle.session_state_mut() {
-        Some(engine) => all_ways_in(engine.session(), alloc, starts, ways, size),
+        Some(state) => all_ways_in(state.session(), alloc, starts, ways, size),
         None => NO_NETWORK,
     }
 }
@@ -160,8 +160,8 @@ pub extern "C" fn revroute_shrink(
 {
     *size = 0;
     match handle.session_state_mut() {
-        Some(engine) => way_pushes_in(
-            engine.session(),
+        Some(state) => way_pushes_in(
+            state.session(),
             alloc,
             &PhaseRequest {
                 phase: Phase::Shrink,
@@ -201,8 +201,8 @@ pub extern "C" fn revroute_grow(
 {
     *size = 0;
     match handle.session_state_mut() {
-        Some(engine) => way_pushes_in(
-            engine.session(),
+        Some(state) => way_pushes_in(
+            state.session(),
             alloc,
             &PhaseRequest {
                 phase: Phase::Grow,
@@ -240,7 +240,7 @@ pub extern "C" fn revroute_change_shrink(
 {
     *size = 0;
     match handle.session_state_mut() {
-        Some(engine) => hand_out_pushes(alloc, &engine.published.shrink(), pushes, size),
+        Some(state) => hand_out_pushes(alloc, &state.published.shrink(), pushes, size),
         None => hand_out(&[], pushes, size),
     }
 }
@@ -262,7 +262,7 @@ pub extern "C" fn revroute_change_grow(
 {
     *size = 0;
     match handle.session_state_mut() {
-        Some(engine) => hand_out_pushes(alloc, &engine.published.grow(), pushes, size),
+        Some(state) => hand_out_pushes(alloc, &state.published.grow(), pushes, size),
         None => hand_out(&[], pushes, size),
     }
 }

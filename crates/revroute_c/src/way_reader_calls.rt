@@ -46,7 +46,7 @@ pub extern "C" fn revroute_way_reader_open(
     ensures status { (result ≡ REVROUTE_ANSWERED) ⊎ (result ≡ REVROUTE_NO_MEMORY) }
 {
     let opened = match handle.session_state_mut() {
-        Some(engine) => way_reader_in(engine, alloc),
+        Some(state) => way_reader_in(state, alloc),
         None => way_reader_of_new_session(handle, alloc),
     };
     match opened {

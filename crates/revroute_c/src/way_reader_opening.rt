@@ -11,15 +11,15 @@ use std::alloc::{AllocError, Global};
 
 /// A reader of the session's ways.
 pub(crate) fn way_reader_in(
-    engine: &mut SessionState,
+    state: &mut SessionState,
     alloc: Global,
 ) -> Result<Box<Reader>, AllocError>
-    ensures opens { OpensWays engine.old engine.new }
-    ensures reader { IfOk result (λ reader. ReadsWaysOf engine.new reader.value) }
+    ensures opens { OpensWays state.old state.new }
+    ensures reader { IfOk result (λ reader. ReadsWaysOf state.new reader.value) }
 {
-    engine.published.table_law();
-    let reader = engine.published.way_reader(alloc)?;
-    engine.published.table_law();
+    state.published.table_law();
+    let reader = state.published.way_reader(alloc)?;
+    state.published.table_law();
     Ok(Box::new(alloc, reader)?)
 }
 
@@ -33,8 +33,8 @@ pub(crate) fn way_reader_of_new_session(
     ensures reader { IfOk result (λ reader. ReadsWaysOf (held_by handle.new) reader.value) }
     ensures kept { OnErr result (handle.new ≡ handle.old) }
 {
-    let mut engine = Box::new(alloc, SessionState::new(alloc))?;
-    let reader = way_reader_in(&mut engine, alloc)?;
-    Handle::put(handle, engine);
+    let mut state = Box::new(alloc, SessionState::new(alloc))?;
+    let reader = way_reader_in(&mut state, alloc)?;
+    Handle::put(handle, state);
     Ok(reader)
 }

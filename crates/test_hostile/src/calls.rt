@@ -638,7 +638,12 @@ fn answered_alone<R: Alloc<A = Global> + Eprint>(rt: &R, answer: &mut Answer) {
         answer.say(&report);
     }
     let request = Request::Ask(Question::Links);
-    put_line(rt, answer, session.answer_alone(rt.alloc(), &request));
+    let mut rerouted = Vec::new(rt.alloc());
+    put_line(
+        rt,
+        answer,
+        session.answer_telling_alone(rt.alloc(), &request, &mut rerouted),
+    );
 }
 
 /// A walk in an open round, on a settled chain.

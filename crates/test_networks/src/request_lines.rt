@@ -2,7 +2,7 @@
 
 use crate::answers::Answer;
 use crate::cases::{count, items, length, word};
-use fr_net::read_line;
+use fr_net::{LineFault, LineReader, Request, read_line};
 use serde_json::Value;
 
 /// Answers a question about lines. Returns whether it is such a question.
@@ -49,17 +49,25 @@ fn byte(answer: &mut Answer, value: &Value) -> u8 {
 
 /// Writes the request of a line.
 fn tell(answer: &mut Answer, line: &[u8]) {
-    answer.comma();
-    match read_line(answer.alloc, line) {
-        Ok(request) => answer.put(&request),
-        Err(fault) => answer.put(&fault),
+    let read = read_line(answer.alloc, line);
+    put_read(answer, read);
+}
+
+/// Writes the request of each beginning of a line, from one byte to all but one. One reader reads them all.
+fn tell_fronts(answer: &mut Answer, line: &[u8]) {
+    let mut reader = LineReader::default();
+    for end in 1..line.len() {
+        let read = reader.read(answer.alloc, &line[..end]);
+        put_read(answer, read);
     }
 }
 
-/// Writes the request of each beginning of a line, from one byte to all but one.
-fn tell_fronts(answer: &mut Answer, line: &[u8]) {
-    for end in 1..line.len() {
-        tell(answer, &line[..end]);
+/// Writes what was read.
+fn put_read(answer: &mut Answer, read: Result<Request, LineFault>) {
+    answer.comma();
+    match read {
+        Ok(request) => answer.put(&request),
+        Err(fault) => answer.put(&fault),
     }
 }
 

@@ -1,7 +1,7 @@
 //! Readers and writers that fail, and how runs, services and plays handle them.
 
 use crate::outcomes::{Outcome, tell_outcome};
-use crate::tasks::{outcome_of, perform};
+use crate::tasks::{outcome_of, perform_task};
 use crate::telling::tell;
 use fr_command::{RunFault, Task};
 use std::alloc::Global;
@@ -157,7 +157,7 @@ impl<'a> Undisturbed<'a> {
         mut writer: NarrowWriter,
         done: bool,
     ) -> bool {
-        let end = perform(rt, self.task, &mut self.input.as_bytes(), &mut writer);
+        let end = perform_task(rt, self.task, &mut self.input.as_bytes(), &mut writer);
         let flushes_once = !matches!(self.task, Task::Serve(_));
         writer.fits(&end, &self.outcome, flushes_once) && (!done || end.is_ok())
     }

@@ -31,7 +31,7 @@ pub fn draw_at(case: &Case<'_>, place: usize) -> Option<Draw> {
 }
 
 /// Does a task with the gate open. The result of a service is 0.
-pub fn perform<T: Threads + Wait + Sync + AllocGlobal, R: Read, W: Write>(
+pub fn perform_task<T: Threads + Wait + Sync + AllocGlobal, R: Read, W: Write>(
     rt: &T,
     task: Task,
     reader: &mut R,
@@ -60,6 +60,6 @@ pub fn outcome_of<T: Threads + Wait + Sync + AllocGlobal, R: Read>(
     reader: &mut R,
 ) -> Outcome {
     let mut out = Vec::new(rt.alloc());
-    let end = perform(rt, task, reader, &mut out);
+    let end = perform_task(rt, task, reader, &mut out);
     Outcome { out, end }
 }

@@ -423,7 +423,7 @@ impl Network {
         Ok(self.try_found_of(node, ways).map(Option::unwrap_or_default))
     }
 
-    /// The [`ways`](Network::ways) of each node, in the order of the nodes. `O(n + m log d)`.
+    /// The [`ways`](Network::ways) of each node, in the order of the nodes. `O(n + m)`.
     ///
     /// ```
     /// let network = revroute::Network::new(4, 0, &[(1, 0), (2, 1), (2, 0)])?;
@@ -601,7 +601,7 @@ impl Network {
     }
 
     /// What to push first to routers that hold all their [`ways`](Network::ways): each node that loses a way, with the
-    /// ways that it keeps. Nodes that keep one come first, by number, and then those that keep none. `O(n + m log d + k)`
+    /// ways that it keeps. Nodes that keep one come first, by number, and then those that keep none. `O(n + m + k)`
     /// for k ways in the table.
     ///
     /// Your table has a list for each node: the ways that its router may hold. These are the ways that it has confirmed

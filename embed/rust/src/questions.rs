@@ -236,7 +236,7 @@ impl Session {
         self.engine.ways(node)
     }
 
-    /// The ways of each node, in the order of the nodes. Empty before the first network. `O(n + m log d)`.
+    /// The ways of each node, in the order of the nodes. Empty before the first network. `O(n + m)`.
     ///
     /// ```
     /// let mut session = revroute::Session::new();

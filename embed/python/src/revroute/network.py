@@ -106,7 +106,7 @@ class Network(Generic[Name]):
     - `hops`, `hops_into`, `table`, `pushes` and `counts`: O(n).
     - `has_link`: O(d) for d links at the two nodes.
     - `links`, `neighbors`, `save` and `copy`: O(n + m).
-    - `all_ways`: O(n + m log d). `shrink` and `grow`: O(n + m log d + k) for k ways in the table.
+    - `all_ways`: O(n + m). `shrink` and `grow`: O(n + m + k) for k ways in the table.
     - `move_dest` and a new network: O(n + m), plus the round.
     - `cut`, `add`, `join` and `batch`: O(d) for each edit, and if nodes turn O(d log d) for each of them and for each
       node that had one of these as its next hop. A link that is added may cost a search, and O(n + m). The first

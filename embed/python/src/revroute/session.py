@@ -252,7 +252,7 @@ class Session:
       of `distance` in a network costs O(n + m) more.
     - `hops`, `pushes` and `counts`: O(n).
     - `links` and `save`: O(n + m).
-    - `all_ways`: O(n + m log d). `shrink` and `grow`: O(n + m log d + k) for k ways in the table.
+    - `all_ways`: O(n + m). `shrink` and `grow`: O(n + m + k) for k ways in the table.
     - `answer`, `take` and `finish`: O(b) for b bytes of lines and answers, plus the same calls of a Network.
     """
 

@@ -7,4 +7,4 @@ pub returns : goal.returns
 returns c =
     c.edit_by_word.ensures
     ∙ sym (word_settles edit_of_word _ _ _ _ (sym c.in_ok-items_of.ensures) c.in-len1-up.len_at_least c.first-item.is
-    (sym c.in_ok-as_str.ensures))
+    (sym c.in_ok-word_in.ensures))

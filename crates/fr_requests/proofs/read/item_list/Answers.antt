@@ -1,5 +1,5 @@
 use Rattle.std.proofs.Common.{None, ap, get_or, option_and_then, option_map, refl, sym, ◌++◌, ◌∙◌, ◌≡◌}
-use Rattle.serde_json.specs.View.{view}
+use Rattle.fr_requests.specs.Values.{view}
 use Rattle.fr_requests.specs.Returned.{IsReadNext}
 use Rattle.fr_requests.specs.Requests.{read_all}
 use Rattle.fr_requests.proofs.HandedOn.{handed_on}

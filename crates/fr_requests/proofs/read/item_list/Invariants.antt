@@ -1,5 +1,5 @@
 use Rattle.std.proofs.Common.{drop, map, option_map, ◌++◌, ◌≡◌}
-use Rattle.serde_json.specs.View.{view}
+use Rattle.fr_requests.specs.Values.{view}
 use Rattle.fr_requests.specs.Requests.{read_all}
 use Rattle.fr_requests.proofs.read.item_list.Given as goal
 

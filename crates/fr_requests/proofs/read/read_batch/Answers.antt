@@ -1,6 +1,6 @@
 use Rattle.std.proofs.Common.{List, [], ap, arith, get_or, length, map, ok_or, option_map, ◌<◌, ◌∙◌, ◌∷◌, ◌≡◌, ◌≤◌}
-use Rattle.serde_json.specs.View.{view}
-use Rattle.serde_json.specs.declared.value.Value.{Value}
+use Rattle.fr_requests.specs.Values.{view}
+use Rattle.fr_requests.specs.Values.{Value}
 use Rattle.fr_requests.specs.Requests.{batch_request, make_edits}
 use Rattle.fr_requests.specs.declared.requests.LineFault.TheVariants.{NotRequest}
 use Rattle.fr_requests.proofs.read.read_batch.Goals as goal

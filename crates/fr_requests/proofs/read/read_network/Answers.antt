@@ -1,7 +1,7 @@
 use Rattle.std.proofs.Common.{List, Some, [], ap, arith, get_or, length, map, ok_or, option_and_then, option_map, sym}
 use Rattle.std.proofs.Common.{ℕ, ◌<◌, ◌∙◌, ◌∷◌, ◌≡◌, ◌≤◌}
-use Rattle.serde_json.specs.View.{view}
-use Rattle.serde_json.specs.declared.value.Value.{Value}
+use Rattle.fr_requests.specs.Values.{view}
+use Rattle.fr_requests.specs.Values.{Value}
 use Rattle.fr_requests.specs.Requests.{links_in, network_request, new_network, number_in}
 use Rattle.fr_requests.specs.declared.requests.LineFault.TheVariants.{NotRequest}
 use Rattle.fr_requests.proofs.read.read_network.Goals as goal

@@ -1,5 +1,5 @@
 use Rattle.std.proofs.Common.{drop, length, map, sym, take, ◌-◌, ◌≡◌}
-use Rattle.serde_json.specs.View.{view}
+use Rattle.fr_requests.specs.Values.{view}
 use Rattle.fr_requests.proofs.Items.{word_settles}
 use Rattle.fr_requests.specs.Requests.{request_of, request_of_word}
 use Rattle.fr_requests.proofs.read.request_in.Goals as goal

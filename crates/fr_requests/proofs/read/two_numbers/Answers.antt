@@ -1,7 +1,7 @@
 use Rattle.std.proofs.Common.{List, Some, [], ap, arith, get_or, length, map, option_and_then, option_map, sym, ℕ, ◌<◌}
 use Rattle.std.proofs.Common.{◌∙◌, ◌∷◌, ◌≡◌, ◌≤◌}
-use Rattle.serde_json.specs.View.{view}
-use Rattle.serde_json.specs.declared.value.Value.{Value}
+use Rattle.fr_requests.specs.Values.{view}
+use Rattle.fr_requests.specs.Values.{Value}
 use Rattle.fr_requests.specs.Requests.{number_in, number_pair}
 use Rattle.fr_requests.proofs.read.two_numbers.Goals as goal
 

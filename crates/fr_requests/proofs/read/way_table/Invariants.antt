@@ -1,5 +1,5 @@
 use Rattle.std.proofs.Common.{drop, map, option_map, ◌++◌, ◌≡◌}
-use Rattle.serde_json.specs.View.{view}
+use Rattle.fr_requests.specs.Values.{view}
 use Rattle.fr_requests.specs.Requests.{read_all, ways_in}
 use Rattle.fr_requests.proofs.read.way_table.Given as goal
 

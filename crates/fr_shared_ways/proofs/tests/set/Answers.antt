@@ -1,5 +1,5 @@
-use Rattle.std.proofs.Common.{All, Contains, List, [], arith, drop, length, subst, sym, take, ap, ℕ, ⊎_elim, ◌++◌}
-use Rattle.std.proofs.Common.{◌<◌, ◌∙◌, ◌∷◌, ◌≡◌, ◌≤◌, slice_set}
+use Rattle.std.proofs.Common.{All, Contains, List, [], arith, drop, length, subst, take, ap, ℕ, ⊎_elim, ◌++◌}
+use Rattle.std.proofs.Common.{◌<◌, ◌∙◌, ◌∷◌, ◌≡◌, slice_set}
 use Rattle.std.proofs.lemmas.Bool.{cases_eq, cases_lt}
 use Rattle.std.proofs.lemmas.List.{get_or-set_other, get_or-set_same, get_or_past, length-set, length-take}
 use Rattle.std.proofs.lemmas.List.{take-append-drop}

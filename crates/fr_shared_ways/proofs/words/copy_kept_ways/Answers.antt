@@ -1,4 +1,4 @@
-use Rattle.std.proofs.Common.{List, [], ap, arith, cond, eqb, get_or, length, length-set, sym, take, ℕ, ◌++◌, ◌+◌}
+use Rattle.std.proofs.Common.{List, [], ap, arith, cond, eqb, get_or, length, sym, take, ℕ, ◌++◌, ◌+◌}
 use Rattle.std.proofs.Common.{◌<◌, ◌∙◌, ◌∷◌, ◌≡◌, Bool, append-nil}
 use Rattle.std.specs.Cmp.{nat_eq_equiv}
 use Rattle.std.specs.List.{filter, list_any}

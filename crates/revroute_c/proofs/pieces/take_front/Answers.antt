@@ -1,7 +1,7 @@
 use Rattle.std.proofs.Common.{rules, ◌≡◌, ◌∙◌, ◌+◌, ◌++◌, take, ℕ, List, ap, arith, inl, inr, refl, ⊎_elim, Option}
 use Rattle.std.proofs.lemmas.Grind.{common_steps}
 use Rattle.fr_route.specs.States.{State}
-use Rattle.revroute_c.specs.Engines.{Held}
+use Rattle.revroute_c.specs.SessionStates.{Held}
 use Rattle.revroute_c.specs.Replies.{IsWanted}
 use Rattle.revroute_c.specs.Pieces.{EndsLine, IsWantedAtEnd}
 use Rattle.revroute_c.specs.declared.statuses.TheConstants.{BEGUN}
@@ -16,13 +16,13 @@ wanted_at_end s begun piece line room size count ends = ⊎_elim
 pub returns-then-status-gt-BLANK : goal.returns-then-status-gt-BLANK
 returns-then-status-gt-BLANK c =
     let held : c.keep_unfinished_line-held.result ≡ BEGUN = search rules in
-    let ends : EndsLine c.args.engine.now.begun c.args.piece.now c.keep_unfinished_line-held.new.begun.items
+    let ends : EndsLine c.args.state.now.begun c.args.piece.now c.keep_unfinished_line-held.new.begun.items
     (c.front_size-end.result + 1) = record {
       end = c.front_size-end.result;
       at = grind (arith, common_steps);
       line_is =
           c.keep_unfinished_line-held.ensures.held held
-          ∙ ap (λ (e : Held). e.begun ++ take c.front_size-end.result c.args.piece.now) c.engine.view_is;
+          ∙ ap (λ (e : Held). e.begun ++ take c.front_size-end.result c.args.piece.now) c.state.view_is;
       short = c.keep_unfinished_line-held.ensures.within held;
       count_is = refl;
     } in
@@ -35,7 +35,7 @@ returns-then-status-gt-BLANK c =
       within = search rules;
       too_short = λ is.
           let short = c.finish_line-status.ensures.answers.too_short is in
-          (short.0, wanted_at_end _ _ _ _ _ _ _ ends (rw (ap (λ (e : Held). e.session) c.engine.view_is) at short.1));
+          (short.0, wanted_at_end _ _ _ _ _ _ _ ends (rw (ap (λ (e : Held). e.session) c.state.view_is) at short.1));
       no_memory = search rules;
       too_long = search rules;
       unchanged = search rules;

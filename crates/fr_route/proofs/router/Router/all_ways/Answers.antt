@@ -19,7 +19,7 @@ of_router r s is d same made ways =
 pub returns-then-self : goal.returns-then-self
 returns-then-self c =
     let r = c.self.inside in
-    of_router r c.args.self.now c.self.view_is r.distances.table.dest
+    of_router r c.args.self.now c.self.view_is r.forwarding.distances.table.dest
     (c.self.invariant.distances.distances c.if-self.true).dest
     c.table_of_ways.result c.table_of_ways.ensures
 

@@ -7,7 +7,7 @@ use Rattle.fr_route.proofs.router.Router.next_hop.Goals as goal
 pub returns : goal.returns
 returns c =
     let x : ℕ = c.args.x in
-    let hops = c.self.inside.hops.items in
+    let hops = c.self.inside.forwarding.hops.items in
     let hop = c.index.result.now in
     let below : x < c.self.inside.net.nodes = subst (λ (s : State). x < s.nodes) (sym c.self.view_is) c.requires in
     let low : x < length hops = subst (λ (n : ℕ). x < n) (sym c.self.invariant.hops.one_each) below in

@@ -11,7 +11,7 @@ turn-requires-clause-kept c =
     (settled_lawful net.nodes c.args.dest net.links c.network_law.ensures.is_net c.requires.destination c.args.turns
     c.requires.settled).kept
 
-pub forwarding_state-requires : goal.forwarding_state-requires
-forwarding_state-requires c =
+pub after-requires : goal.after-requires
+after-requires c =
     subst (λ (m : Network). IsAfterRound (state_with m c.args.dest c.args.turns)) (sym c.turn.ensures.is)
     (after_outcome c.args.net c.args.dest c.args.turns c.network_law.ensures.is_net c.requires)

@@ -1,4 +1,4 @@
-use Rattle.std.proofs.Common.{List, ap, arith, length, map, set, subst, sym, take, ℕ, ◌<◌, ◌∙◌, ◌≡◌}
+use Rattle.std.proofs.Common.{List, ap, length, set, sym, take, ℕ, ◌<◌, ◌∙◌, ◌≡◌}
 use Rattle.std.proofs.lemmas.List.{map-set}
 use Rattle.fr_shared_ways.specs.Inside.{AreWords, held_table}
 use Rattle.fr_shared_ways.specs.Words.{Fit, word_of}

@@ -1,7 +1,6 @@
-use Rattle.std.proofs.Common.{List, ap, arith, length, subst, take, sym, ℕ, ◌∙◌, ◌≡◌, ◌≤◌}
+use Rattle.std.proofs.Common.{take, ◌∙◌, ◌≡◌}
 use Rattle.fr_ways.specs.Ways.{ways}
-use Rattle.fr_shared_ways.specs.Histories.{IsTable}
-use Rattle.fr_shared_ways.specs.Knowledge.{Knowledge, last_table}
+use Rattle.fr_shared_ways.specs.Knowledge.{last_table}
 use Rattle.fr_shared_ways.proofs.Histories.{last_is_table}
 use Rattle.fr_shared_ways.proofs.Pushing.{set_table}
 use Rattle.fr_shared_ways.proofs.publisher.Publisher.grow_node.Goals as goal

@@ -1,5 +1,4 @@
-use Rattle.std.proofs.Common.{ap, sym, ◌∙◌, ◌≡◌}
-use Rattle.fr_shared_ways.specs.Knowledge.{Knowledge, last_table}
+use Rattle.fr_shared_ways.specs.Knowledge.{last_table}
 use Rattle.fr_shared_ways.proofs.Pushing.{all_pushes, is_part}
 use Rattle.fr_shared_ways.proofs.publisher.Publisher.push_all.Goals as goal
 

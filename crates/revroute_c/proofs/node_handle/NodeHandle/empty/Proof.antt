@@ -15,8 +15,8 @@ use denote.RawPtr.{null_ptr}
 use denote.Steps.{nothing}
 use denote.Triple.Walked.{Stays, walk_of}
 use Rattle.std.proofs.raw_atomic.Walks.{proved_at, leaves}
-use Rattle.revroute_c.specs.Machines.{HeldNode}
-use Rattle.revroute_c.specs.Machines.{no_machine}
+use Rattle.revroute_c.specs.NodeStates.{HeldNode}
+use Rattle.revroute_c.specs.NodeStates.{no_node}
 use Rattle.revroute_c.proofs.Owned.{word}
 use Rattle.revroute_c.proofs.NodeHandles.{handle_in, handle_of}
 use Rattle.revroute_c.specs.contracts.node_handle.NodeHandle.empty.{ended, clauses}
@@ -29,14 +29,14 @@ empty_spec 𝓤 𝓛 𝓜 𝓡 wired =
     let H = 𝓛.H in let 𝓣 = tables 𝓤 H 𝓜 𝓡 𝓡.env in let c = clauses 𝓛 𝓜.mem 𝓡.returns in let fn = code.function in
     let hs : Stays ended.signature.params ended.kept = tt in
     proved_at 𝓛 ended hs c 𝓜 𝓡 tt #self fn (code.unfolded 𝓤 H 𝓜 𝓡 wired) (λ z are.
-    let κs = z.0.0 in let Post : Val → SProp 𝓤 = (walk_of 𝓛 ended hs c).post z in let none : HeldNode = no_machine in
+    let κs = z.0.0 in let Post : Val → SProp 𝓤 = (walk_of 𝓛 ended hs c).post z in let none : HeldNode = no_node in
     qed 𝓛 ((‵ ftrue ⊛ ‵ (owns (types_at ended.signature.params κs) z.0.3 z.0.4)) ∷ raw ((c κs z.0.3).requires z.1)
     ∷ []) ∵ split ! $ move ! (1 ∷ []) $ drop ! $
     -- [the tokens (there are none); the `requires`; the locals]
     enter ! 𝓣.C 𝓣.Λ fn [] Post $ alloc_all ! (λ l. pass_all ! refl tt $
     sets ! (agg ! (and_then ! (lit ! tt) (no_more !))) refl (tt, (record { fits = lit< tt }, tt)) $
-    nothing ! $ fpack ! (none ≡ no_machine) (λ _. ftrue) refl $ handle_in ! null_ptr none $
+    nothing ! $ fpack ! (none ≡ no_node) (λ _. ftrue) refl $ handle_in ! null_ptr none $
     use0 𝓛 (raw (fact 𝓤 (null_ptr ≡ null_ptr))) (fact_i 𝓤 (null_ptr ≡ null_ptr) (emp 𝓤) refl) $
-    use0 𝓛 (raw (fact 𝓤 (none ≡ no_machine))) (fact_i 𝓤 (none ≡ no_machine) (emp 𝓤) refl) $ join ! $ nothing ! $
+    use0 𝓛 (raw (fact 𝓤 (none ≡ no_node))) (fact_i 𝓤 (none ≡ no_node) (emp 𝓤) refl) $ join ! $ nothing ! $
     returns ! (look_at ! 0 refl) $ free_all ! refl $ keep ! (3 ∷ 0 ∷ 2 ∷ 1 ∷ []) $ by !
     (leaves 𝓛 ended hs c z (word null_ptr) (handle_of null_ptr none) tt tt)))

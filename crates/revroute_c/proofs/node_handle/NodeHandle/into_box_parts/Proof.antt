@@ -31,7 +31,7 @@ use Rattle.std.proofs.raw_atomic.Walks.{proved_at, leaves}
 use Rattle.revroute_c.specs.contracts.node_state.NodeState.{the_row as S}
 use Rattle.revroute_c.proofs.Owned.{word, either_owned}
 use Rattle.revroute_c.proofs.NodeHandles.{handle_out}
-use Rattle.revroute_c.specs.Machines.{no_machine}
+use Rattle.revroute_c.specs.NodeStates.{no_node}
 use Rattle.revroute_c.specs.NodeLending.{kept_by}
 use Rattle.revroute_c.proofs.Values.{al, both, BoxParts, loose_good, loose_in}
 use Rattle.revroute_c.specs.contracts.node_handle.NodeHandle.{the_row as H'}
@@ -59,7 +59,7 @@ into_box_parts_spec 𝓤 𝓛 𝓜 𝓡 wired =
     handle_out ! d z.0.4.0 (λ ws. move ! (1
     ∷ []) $ fsplit ! $ handle_tells (al S Z LZ ghosts) ! a z.0.4.1.0 (λ h eh gh. move ! (2 ∷ []) $
     -- [what the handle owns; the allocator; no more parameters; no tokens; the `requires`]
-    either_owned S no_machine ! d.at (kept_by d)
+    either_owned S no_node ! d.at (kept_by d)
     (λ is none. let w : Val = word null_ptr in
     suffices ! (Run (w ∷ h ∷ [])) (subst (λ (us : List Val). ent 𝓤 (Run (w ∷ h ∷ [])) (Run us))
     (sym (λ i. (ws ∙ ap (λ (p : Ptr). word p ∷ []) is) i ++ (eh i ++ []))) (id⊢ 𝓤 (Run (w ∷ h ∷ [])))) $
@@ -73,8 +73,8 @@ into_box_parts_spec 𝓤 𝓛 𝓜 𝓡 wired =
     $ exec ! 𝓣.C 𝓣.Λ Ev (after 3 fn.body) (at_ret Ev Post) $
     sets ! (of_opd ! (get ! refl)) refl (tt, (record { fits = lit< tt }, tt)) $
     use0 𝓛 (‵ (Out.own_val None (live 0 vnil ∷ []))) (none_of 𝓛 Lr) $
-    use0 𝓛 (raw (fact 𝓤 (kept_by d ≡ no_machine))) (fact_i 𝓤 (kept_by d
-    ≡ no_machine) (emp 𝓤) none) $ nothing ! $ nothing ! $ fjoin ! $ nothing ! $ fjoin ! $
+    use0 𝓛 (raw (fact 𝓤 (kept_by d ≡ no_node))) (fact_i 𝓤 (kept_by d
+    ≡ no_node) (emp 𝓤) none) $ nothing ! $ nothing ! $ fjoin ! $ nothing ! $ fjoin ! $
     returns ! (look_at ! 0 refl) $ free_all ! refl $ keep ! (5 ∷ 0 ∷ 2 ∷ 1 ∷ []) $ by !
     (leaves 𝓛 ended hs c z (live 0 vnil) None (tt, (tt, tt)) (tt, (tt, tt)))) (λ wrong. absurd wrong)))
     (λ b o a' is t. let w : Val = word (block_ptr b o) in let made : Val = both (vptr b o) h in

@@ -1,4 +1,4 @@
--- `node_state_mut` tests the pointer, and lends its machine if it is not null.
+-- `node_state_mut` tests the pointer, and lends its node state if it is not null.
 use Rattle.std.proofs.Common.{◌≡◌, ◌≢◌, ℕ, List, [], ◌∷◌, refl, sym, lit<}
 use seplogic.Ra.Ura.{Ura}
 use mir.Syntax.{named}
@@ -39,9 +39,9 @@ use Rattle.std.proofs.option.Made.{Some-of, none_of}
 use Rattle.std.proofs.raw_atomic.Walks.{proved, leaves}
 use Rattle.revroute_c.specs.contracts.node_state.NodeState.{the_row as S}
 use Rattle.revroute_c.specs.Owning.{owned_at}
-use Rattle.revroute_c.specs.Machines.{HeldNode}
-use Rattle.revroute_c.specs.Machines.{no_machine}
-use Rattle.revroute_c.specs.NodeLending.{kept_by, with_machine}
+use Rattle.revroute_c.specs.NodeStates.{HeldNode}
+use Rattle.revroute_c.specs.NodeStates.{no_node}
+use Rattle.revroute_c.specs.NodeLending.{kept_by, with_node_state}
 use Rattle.revroute_c.proofs.Owned.{word, boxed, either_owned, not_null}
 use Rattle.revroute_c.proofs.NodeHandles.{handle_out, handle_in}
 use Rattle.revroute_c.specs.declared.node_handle.NodeHandle.{NodeHandle}
@@ -75,27 +75,27 @@ module _ {M : Type 1} {𝓤 : Ura M} (𝓛 : Logic 𝓤) (at_mem : Memory → SP
   abbrev cell : Ptr → Fml
   cell p = cell_at full_share H'.mir (word p ∷ []) b o
 
-  -- what is left of the handle while its machine is lent
+  -- what is left of the handle while its node state is lent
   abbrev Rest : Global → ℕ → ℕ → Fml
   Rest a x y = fsep (ghosts.dealloc_token a (bare (lone S.mir)) (block_ptr x y)) (cell (block_ptr x y))
 
   back : (a : Global) (x y : ℕ) → h.at ≡ block_ptr x y → (w : HeldNode)
       → ent 𝓤 (sep 𝓤 (sem 𝓛 ((mem S).own_at w x y)) (sem 𝓛 (Rest a x y)))
-      (sem 𝓛 ((mem H').own_at (with_machine h w) b o))
+      (sem 𝓛 ((mem H').own_at (with_node_state h w) b o))
   unfolding part_of
   back a x y is w =
       qed 𝓛 (‵ (part_at S full_share w x y) ∷ ‵ (Rest a x y) ∷ []) ∵ move ! (1 ∷ []) $ fsplit ! $ move ! (2 ∷ 0
       ∷ []) $ fjoin ! $
-      fpack ! Global (λ z. boxed S z (block_ptr x y) w) a $ rewrite ! 0 (λ (p : Ptr). ‵ (owned_at S no_machine p w))
+      fpack ! Global (λ z. boxed S z (block_ptr x y) w) a $ rewrite ! 0 (λ (p : Ptr). ‵ (owned_at S no_node p w))
       (sym is) refl $ rewrite ! 1 (λ (p : Ptr). ‵ (cell p)) (sym is) refl $
       handle_in ! h.at w $ move ! (1 ∷ 0 ∷ []) $ fjoin ! $ fpack ! (List Val)
-      (λ us. fsep (cell_at full_share H'.mir us b o) (H'.own_val (with_machine h w) us)) (word h.at ∷ []) $ done !
+      (λ us. fsep (cell_at full_share H'.mir us b o) (H'.own_val (with_node_state h w) us)) (word h.at ∷ []) $ done !
 
-  none_lent : h.at ≡ null_ptr → kept_by h ≡ no_machine
+  none_lent : h.at ≡ null_ptr → kept_by h ≡ no_node
       → ent 𝓤 (sep 𝓤 (A.obs γ (H'.coded.code h)) (A.lft κ q)) (Post (live 0 vnil))
   unfolding follows_by
   none_lent is none =
-      let P : Type 0 = (h.at ≡ null_ptr) × (kept_by h ≡ no_machine) in
+      let P : Type 0 = (h.at ≡ null_ptr) × (kept_by h ≡ no_node) in
       qed 𝓛 (‵ (fobs γ (H'.coded.code h)) ∷ ‵ (flft κ q)
       ∷ []) ∵ use1 𝓛 (‵ (fres γ (H'.coded.code h))) (𝓛.names.obs-res γ (H'.coded.code h)) $
       use0 𝓛 (raw (fact 𝓤 P)) (fact_i 𝓤 P (emp 𝓤) (is, none)) $ move ! (1 ∷ 0 ∷ []) $ join ! $ use0 𝓛
@@ -106,13 +106,15 @@ module _ {M : Type 1} {𝓤 : Ura M} (𝓛 : Logic 𝓤) (at_mem : Memory → SP
   one_lent : (x y : ℕ) (γ' : GName) → h.at ≢ null_ptr
       → ent 𝓤 (sep 𝓤 (sem 𝓛 (Lent.own_val (record { ref_ptr = (x, y); ghost_name = γ'; now = (kept_by h) })
       (vptr x y
-      ∷ []))) (sep 𝓤 (A.lft κ q) (sem 𝓛 (follows H' S γ γ' (with_machine h))))) (Post (live 1 (vcons (vptr x y) vnil)))
+      ∷ []))) (sep 𝓤 (A.lft κ q) (sem 𝓛 (follows H' S γ γ' (with_node_state h)))))
+      (Post (live 1 (vcons (vptr x y) vnil)))
   unfolding follows_by
   one_lent x y γ' not_at_null =
       let P : Type 0 = (h.at ≢ null_ptr) × (kept_by h ≡ kept_by h) in
       let r : Lent.Denot = record { ref_ptr = (x, y); ghost_name = γ'; now = (kept_by h) } in
       let v : Val = live 1 (vcons (vptr x y) vnil) in
-      qed 𝓛 (‵ (Lent.own_val r (vptr x y ∷ [])) ∷ ‵ (flft κ q) ∷ ‵ (follows H' S γ γ' (with_machine h)) ∷ []) ∵ use1 𝓛
+      qed 𝓛 (‵ (Lent.own_val r (vptr x y ∷ [])) ∷ ‵ (flft κ q) ∷ ‵ (follows H' S γ γ' (with_node_state h)) ∷ [])
+      ∵ use1 𝓛
       (‵ ((option.the_row Lent).own_val (Some r) (v ∷ []))) (Some-of 𝓛 Lent r (vptr x y)) $
       use0 𝓛 (raw (fact 𝓤 P)) (fact_i 𝓤 P (emp 𝓤) (not_at_null, refl)) $ move ! (3 ∷ 0 ∷ []) $ join ! $
       nothing ! $ move ! (3 ∷ 0 ∷ []) $ join ! $ nothing ! $ nothing ! $ fjoin ! $ keep ! (1 ∷ 0 ∷ 3 ∷ 2 ∷ []) $ by !
@@ -139,7 +141,7 @@ node_state_mut_spec 𝓤 𝓛 𝓜 𝓡 wired =
     (λ us. move ! (1
     ∷ []) $ handle_out ! h us (λ ws. rewrite ! 1 (λ (vs : List Val). ‵ (cell_at full_share H'.mir vs b o)) ws refl $
     -- [what the handle owns; its bytes; the open borrow, in three entries]
-    either_owned S no_machine ! h.at (kept_by h)
+    either_owned S no_node ! h.at (kept_by h)
     (λ is none. rewrite ! 0 (λ (p : Ptr). ‵ (Cell p)) is refl $
     sets ! (of_opd ! (load ! (through ! refl (fld ! refl (stop !))) (look_in ! 0 (sub ! 0 refl (whole !))))) refl (
       tt,
@@ -147,8 +149,8 @@ node_state_mut_spec 𝓤 𝓛 𝓜 𝓡 wired =
     ) $
     sets ! (bin ! (get ! refl) (lit ! tt) tt) refl (tt, tt) $ first ! $ branches ! (get ! refl)
     (λ _. sets ! (agg ! (and_then ! (lit ! tt) (no_more !))) refl (tt, (record { fits = lit< tt }, tt)) $
-    rewrite ! 0 (λ (p : Ptr). ‵ (Cell p)) (sym is) refl $ nothing ! $ fpack ! (kept_by h ≡ no_machine)
-    (λ _. ftrue) none $ rewrite ! 0 (λ (p : Ptr). ‵ (owned_at S no_machine p (kept_by h))) (sym is) refl $
+    rewrite ! 0 (λ (p : Ptr). ‵ (Cell p)) (sym is) refl $ nothing ! $ fpack ! (kept_by h ≡ no_node)
+    (λ _. ftrue) none $ rewrite ! 0 (λ (p : Ptr). ‵ (owned_at S no_node p (kept_by h))) (sym is) refl $
     handle_in ! h.at (kept_by h) $ move ! (1 ∷ 0 ∷ []) $ closes ! tt H' h (word h.at ∷ []) b o $
     returns_within ! Ends refl (look_at ! 0 refl) $ free_all ! refl $ keep ! (0 ∷ 2 ∷ []) $ by !
     (none_lent 𝓛 𝓜.mem 𝓡.returns κ q b o γ h is none)) (λ wrong. absurd wrong))
@@ -178,8 +180,8 @@ node_state_mut_spec 𝓤 𝓛 𝓜 𝓡 wired =
     let left : SProp 𝓤 = sem 𝓛 (Rest 𝓛 𝓜.mem 𝓡.returns κ q b o γ h a x y) in
     let again = back 𝓛 𝓜.mem 𝓡.returns κ q b o γ h a x y is in
     use1 𝓛 (later (some (λ (γ' : GName). raw
-    (Part 𝓛 H' S (with_machine h) (named 0) κ q b o x y γ left again (kept_by h) γ'))))
-    (lends_Part 𝓛 H' S (with_machine h) (named 0) κ q b o x y γ left again (H'.coded.code h) (H'.coded.code h)
+    (Part 𝓛 H' S (with_node_state h) (named 0) κ q b o x y γ left again (kept_by h) γ'))))
+    (lends_Part 𝓛 H' S (with_node_state h) (named 0) κ q b o x y γ left again (H'.coded.code h) (H'.coded.code h)
     (kept_by h)) $ await ! tt $ pick ! (λ γ'.
     returns ! (look_at ! 0 refl) $ free_all ! refl $ keep ! (0 ∷ []) $ by !
     (one_lent 𝓛 𝓜.mem 𝓡.returns κ q b o γ h x y γ' (not_null h.at x y is)))))))))
