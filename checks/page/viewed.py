@@ -71,8 +71,8 @@ SIDES = '''(() => {
     page.scrollWidth <= innerWidth && page.scrollHeight <= innerHeight];
 })()'''
 
-# Waits until the page is drawn, and how often at most: for five seconds, at 60 drawings each.
-MOST_DRAWINGS = 300
+# Waits until the page is drawn, and how often at most: for a second, at 60 drawings each.
+MOST_DRAWINGS = 60
 
 DRAWN = 'new Promise(done => requestAnimationFrame(() => setTimeout(done)))'
 

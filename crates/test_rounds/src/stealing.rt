@@ -263,7 +263,7 @@ pub fn looks_again<R: Threads + Wait + Sync + Alloc<A = Global>>(
 }
 
 /// How often the runs are repeated, since a busy machine may leave a thread no time.
-const REPEATS: u32 = 40;
+const REPEATS: u32 = 10;
 
 /// How many workers make less than one of a hundred turns, in so many runs on the chain of 1,024 nodes.
 fn count_idle<R: Threads + Wait + Sync + Alloc<A = Global>>(
