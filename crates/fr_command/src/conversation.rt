@@ -104,7 +104,7 @@ impl Conversation {
     /// nothing was taken, and the caller can pass the piece again.
     ///
     /// O(b) for b bytes taken, and at a newline the cost of [`Session::answer_line_in`].
-    pub fn take<T: Threads + Wait + Sync, G: Gate + Sync>(
+    pub fn push_piece<T: Threads + Wait + Sync, G: Gate + Sync>(
         &mut self,
         crew: &Crew<'_, T, G>,
         piece: &[u8],
@@ -141,7 +141,7 @@ impl Conversation {
                 answer: None,
             });
         }
-        match self.finish(crew) {
+        match self.end_line(crew) {
             Ok(answer) => Ok(Taken {
                 count: end + 1,
                 answer,
@@ -164,9 +164,9 @@ impl Conversation {
     }
 
     /// Ends the line that has begun, as the end of an input does, and answers it. Returns `None` for a blank line.
-    /// Fails with `Start` or `Memory` as [`take`](Conversation::take) does; then nothing has changed. The cost is that
+    /// Fails with `Start` or `Memory` as [`push_piece`](Conversation::push_piece) does; then nothing has changed. The cost is that
     /// of [`Session::answer_line_in`].
-    pub fn finish<T: Threads + Wait + Sync, G: Gate + Sync>(
+    pub fn end_line<T: Threads + Wait + Sync, G: Gate + Sync>(
         &mut self,
         crew: &Crew<'_, T, G>,
     ) -> Result<Option<String>, RunFault>

@@ -135,7 +135,7 @@ fn answer_first_line<T: Threads + Wait + Sync, S: Stream, G: Gate + Sync>(
     ensures unread { ReadsNothing (S.traffic stream.old) (S.traffic stream.new) }
     ensures no_start { StartsNone crew.now.plan.now → result ≢ Err RunFault.Start }
 {
-    let Taken { count, answer } = conversation.take(crew, piece)?;
+    let Taken { count, answer } = conversation.push_piece(crew, piece)?;
     send_answer(stream, &answer)?;
     conversation.reuse(answer);
     Ok(count)
@@ -156,7 +156,7 @@ fn answer_last_line<T: Threads + Wait + Sync, S: Stream, G: Gate + Sync>(
     ensures unread { ReadsNothing (S.traffic stream.old) (S.traffic stream.new) }
     ensures no_start { StartsNone crew.now.plan.now → result ≢ Err RunFault.Start }
 {
-    let answer = conversation.finish(crew)?;
+    let answer = conversation.end_line(crew)?;
     send_answer(stream, &answer)?;
     stream.flush()?;
     Ok(conversation.tally())

@@ -80,8 +80,6 @@ fn has_all_directions(net: &Net, counts: &[u64]) -> bool
     requires { length counts.now ≡ net.now.nodes }
     ensures { IsTrue result ↔ All (IsKept counts.now) net.now.links }
 {
-    // By this law, the tail of each link is a node.
-    net.network_law();
     for x in 0..net.nodes() {
         if !has_directions_in_row(net, counts, x) {
             return false;

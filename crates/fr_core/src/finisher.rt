@@ -20,8 +20,6 @@ fn settle_by_search(net: &Net, dest: u32, turns: &mut Turns)
     requires node { dest < net.now.nodes }
     ensures { AreSettled net.now.nodes dest net.now.links turns.new }
 {
-    // By this law, the table has room for a count of each node.
-    net.network_law();
     let mut table = [0; MAX_NODES as usize];
     let counts = &mut table[..net.nodes() as usize];
     levels::settle(net, dest, counts);

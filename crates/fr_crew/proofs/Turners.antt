@@ -16,7 +16,7 @@ use Rattle.fr_crew.specs.Gates.{EachBefore}
 use Rattle.fr_crew.specs.Settlements.{AreByWorkers, AreCallsWithin, AreNumbered}
 use Rattle.fr_crew.specs.declared.plan.Plan.{Plan}
 use Rattle.fr_graph.specs.Links.{IsNet}
-use Rattle.fr_round.proofs.Keeping.{each_mapped, each_snoc, each_weaker}
+use Rattle.fr_round.proofs.StepsKeepTheRule.{each_mapped, each_snoc, each_weaker}
 use Rattle.fr_round.proofs.Seating.{apart_append}
 use Rattle.fr_round.specs.Closing.{Closes, IsPartOf, number_and_turns}
 use Rattle.fr_round.specs.Histories.{AreApart}

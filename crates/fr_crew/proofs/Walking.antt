@@ -25,7 +25,7 @@ use Rattle.fr_round.specs.Histories.{IsHistory, StartsWith, entry, moment, start
 use Rattle.fr_round.specs.Knowledge.{IsKnowledge, KeepsWorker, Knowledge, LearnsReply, RefusesLook}
 use Rattle.fr_round.specs.Steps.{Extends}
 use Rattle.fr_round.proofs.Entries.{lawful_after}
-use Rattle.fr_round.proofs.Keeping.{each_snoc}
+use Rattle.fr_round.proofs.StepsKeepTheRule.{each_snoc}
 use Rattle.fr_crew.specs.LiveWalks.{AreLooksFrom, FindsNoSink, HasWalked, hop_of, node_after, trail}
 use Rattle.fr_crew.specs.declared.live_walks.LiveEnd.TheVariants.{AtSink}
 use Rattle.fr_crew.specs.declared.live_walks.LiveFault.{LiveFault}

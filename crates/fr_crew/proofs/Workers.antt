@@ -9,7 +9,7 @@ use Rattle.fr_round.specs.Histories.{entry}
 use Rattle.std.specs.List.{AllByRecursion as Each}
 use Rattle.fr_round.specs.Knowledge.{Knowledge, LearnsReply, OpenRound, IsOwn, new_worker, new_workers}
 use Rattle.fr_round.specs.declared.view.Setup.{Setup}
-use Rattle.fr_round.proofs.Keeping.{each_snoc}
+use Rattle.fr_round.proofs.StepsKeepTheRule.{each_snoc}
 use Rattle.fr_crew.specs.Crews.{HasWorked, IsDone, IsNew, IsOwnThread, IsSameWorker, Shift, calls_of}
 use Rattle.fr_crew.specs.Gates.{EachBefore}
 use Rattle.fr_crew.specs.declared.threads.GivesBack.{GivesBack}

@@ -244,7 +244,6 @@ fn empty_turns(alloc: Global, net: &Net, dest: u32) -> Result<Turns, CrewFault>
     ensures no_start { IfErr result (λ fault. fault ≢ Start) }
 {
     test_destination(net, dest)?;
-    net.network_law();
     Ok(Turns::none(alloc, net.nodes())?)
 }
 

@@ -45,13 +45,13 @@ pub mod Batches  -- edits one after the other
 pub mod Evidence  -- a fault has one evidence
 pub mod Undoing  -- edits undone
 -- The search for a cycle
-pub mod Cycles  -- its steps keep its state
-pub mod LeavingOrder  -- the order in which it leaves nodes
-pub mod RowsRead  -- how far it has read the rows
-pub mod LowestCycles  -- the lowest cycle, of which there is one
+pub mod Cycles  -- paths and cycles from their steps
+pub mod FoundCycles  -- what the search finds
+pub mod LowestCycles  -- there is one lowest cycle
 -- The search from both ends
 pub mod MetNodes  -- which nodes the sides have met
 pub mod Sides  -- a side keeps its state
 pub mod SideRows  -- the row that a side reads
 pub mod TwoEnds  -- how it begins and ends
+pub mod RowsRead  -- how far the search for the lowest path has read the rows
 pub mod LowestPaths  -- one side alone, and the lowest path along which links lead to its start

@@ -1,42 +1,12 @@
--- The lowest cycle: the search finds it, and there is only one.
-use Rattle.std.proofs.Common.{List, [], add-one, add-zero, ap, arith, drop, get_or, inl, inr, length, length-drop, refl}
-use Rattle.std.proofs.Common.{suc, sym, zero, ℕ, ◌++◌, ◌+◌, ◌-◌, ◌<◌, ◌∙◌, ◌∷◌, ◌≡◌, ◌≤◌}
+-- There is one lowest cycle.
+use Rattle.std.proofs.Common.{List, add-one, ap, arith, drop, get_or, inl, inr, length, suc, sym, zero}
+use Rattle.std.proofs.Common.{ℕ, ◌+◌, ◌<◌, ◌∙◌, ◌∷◌, ◌≡◌, ◌≤◌}
 use Rattle.std.proofs.lemmas.Bool.{cases_lt}
-use Rattle.std.proofs.lemmas.List.{drop-append-le, ext_get_or, get_or-drop, get_or_append_left, get_or_push}
-use Rattle.std.proofs.lemmas.List.{length_push}
-use Rattle.fr_graph.proofs.Cycles.{path_keeps}
+use Rattle.std.proofs.lemmas.List.{ext_get_or}
 use Rattle.fr_graph.proofs.Linking.{path_carries, walk_carries}
-use Rattle.fr_graph.proofs.Lists.{push_cases}
-use Rattle.fr_graph.specs.CycleSearch.{IsCycleSearch, LeadsTo, mark_of}
 use Rattle.fr_graph.specs.Evidence.{IsLowest, IsLowestCycle, IsLowestCycleBy, IsWayBy, LeadsIn, LeadsIntoCycle}
 use Rattle.fr_graph.specs.Evidence.{LeadsTowards}
-use Rattle.fr_graph.specs.Links.{HaveSameLinks, IsClosedWalk, IsCycle, Points}
-use Rattle.fr_graph.specs.declared.cycle.Mark.{Mark}
-use Rattle.fr_graph.specs.declared.cycle.Mark.TheVariants.{Done}
-
--- no links lead from a done node into a cycle
-done_leads_not : {n : ℕ} {links : List (ℕ × ℕ)} {marks : List Mark} {path : List ℕ} (x : ℕ)
-    → IsCycleSearch n links marks path
-    → mark_of marks x ≡ Done → ¬ LeadsIntoCycle links x
-done_leads_not {n} {links} {marks} {path} x s done leads =
-    let there = path_keeps links (λ (y : ℕ). mark_of marks y ≡ Done) s.done_closed x leads.path.0 done leads.path.1.0 in
-    s.done_safe leads.node leads.rest (rw leads.path.1.1 at there) leads.closed
-
--- a node of a cycle leads into it, and so does a node that points to one that does
-on_cycle : (links : List (ℕ × ℕ)) (x : ℕ) (vs : List ℕ) → IsClosedWalk links x vs → LeadsIntoCycle links x
-on_cycle links x vs closed = record { node = x; path = ([], (tt, refl)); rest = vs; closed = closed }
-
-pub leads_before : (links : List (ℕ × ℕ)) (x y : ℕ) → Points links x y → LeadsIntoCycle links y → LeadsIntoCycle links x
-leads_before links x y step leads = record {
-  node = leads.node;
-  path = (y ∷ leads.path.0, ((step, leads.path.1.0), leads.path.1.1));
-  rest = leads.rest;
-  closed = leads.closed;
-}
-
-cycle_leads : (links : List (ℕ × ℕ)) (walk : List ℕ) → IsCycle links walk → LeadsIntoCycle links (get_or walk 0 0)
-cycle_leads links [] cycle = absurd cycle
-cycle_leads links (x ∷ vs) cycle = on_cycle links x vs cycle
+use Rattle.fr_graph.specs.Links.{HaveSameLinks, Points}
 
 -- if each step to a node with P leads from one, each node of a way that ends at such a node has P
 pub all_lead : (step : ℕ → ℕ → Type 0) (P : ℕ → Type 0) → ((x y : ℕ) → step x y → P y → P x) → (way : List ℕ)
@@ -46,67 +16,6 @@ all_lead step P before way on (suc far) k whole end =
     let e : k + suc far ≡ (k + 1) + far = omega arith in
     before (get_or way k 0) (get_or way (k + 1) 0) (on k (omega arith)) (all_lead step P before way on far (k
     + 1) (omega arith) (rw e at end))
-
--- the path of the search and the node that it leads back to are the way into the cycle
-pub lowest_cycle : {n : ℕ} {links : List (ℕ × ℕ)} {marks : List Mark} {path walk : List ℕ} {k x : ℕ}
-    → IsCycleSearch n links marks path → LeadsTo links marks path x → k < length path → get_or path k 0 ≡ x
-    → walk ≡ drop k path ++ x ∷ [] → IsCycle links walk → IsLowestCycle links walk
-lowest_cycle {n} {links} {marks} {path} {walk} {k} {x} s leads inside at is cycle =
-    let way = path ++ x ∷ [] in
-    let long : length way ≡ length path + 1 = length_push path x in
-    let stays : (j : ℕ) → j < length path → get_or way j 0 ≡ get_or path j 0 =
-    λ j l. get_or_append_left path (x ∷ []) 0 j l in
-    let end : get_or way (length path) 0 ≡ x = get_or_push path x 0 (length path) refl in
-    let follows : (j : ℕ) → j + 1 < length way → Points links (get_or way j 0) (get_or way (j + 1) 0) = λ j h.
-    rw (stays j (omega (arith, long))) (elim (push_cases path x (j
-    + 1) h) [ inl v ↦ rw v.1 (s.path_follows j v.0) | inr v ↦ rw v.1 (leads.points j v.0) ]) in
-    let x_first : get_or walk 0 0 ≡ x = rw is (starts_at path k x inside at) in
-    let x_leads : LeadsIntoCycle links x = rw x_first at (cycle_leads links walk cycle) in
-    let lead : (j : ℕ) → j < length way → LeadsIntoCycle links (get_or way j 0) = λ j l.
-    let e : j + (length path - j) ≡ length path = omega (arith, l, long) in
-    all_lead (Points links) (LeadsIntoCycle links) (leads_before links) way follows (length path - j) j (omega (
-      arith,
-      l,
-      long,
-    )) (rw (e, end) x_leads) in
-    record {
-      way = way;
-      last = length path;
-      whole = sym long;
-      begins = record {
-        holds = lead 0 (omega (arith, long));
-        least = λ y l. elim (cases_lt y (get_or way 0 0)) [
-          | inl less ↦ absurd (done_leads_not y s (s.begins_lowest y (omega (arith, inside)) (rw (stays 0 (omega (
-            arith,
-            inside,
-          ))) at less)) l)
-          | inr ge ↦ ge
-        ];
-      };
-      goes_on = λ j h. record {
-        holds = (follows j h, lead (j + 1) h);
-        least = λ y both. elim (cases_lt y (get_or way (j + 1) 0)) [
-          | inl less ↦
-              let from : Points links (get_or path j 0) y = rw (stays j (omega (arith, h, long))) at both.0 in
-              absurd (done_leads_not y s (elim (push_cases path x (j + 1) h) [
-                | inl v ↦ s.follows_lowest j y v.0 from (rw v.1 at less)
-                | inr v ↦ leads.lowest j y v.0 from (rw v.1 at less)
-              ]) both.1)
-          | inr ge ↦ ge
-        ];
-      };
-      back = k;
-      earlier = inside;
-      again = end ∙ sym (stays k inside ∙ at);
-      first = λ i j lt l same. s.path_once i j lt l (sym (stays i (omega (arith, lt, l))) ∙ same ∙ stays j l);
-      is = is ∙ sym (drop-append-le k path (x ∷ []) (omega (arith, inside)));
-    }
-  where
-    starts_at : (path : List ℕ) (k x : ℕ) → k < length path → get_or path k 0 ≡ x
-        → get_or (drop k path ++ x ∷ []) 0 0 ≡ x
-    starts_at path k x inside at =
-        get_or_append_left (drop k path) (x ∷ []) 0 0 (omega (arith, length-drop k path)) ∙ get_or-drop k path 0 0
-        ∙ rw add-zero at
 
 -- there is one lowest number
 pub lowest_one : {P : ℕ → Type 0} {x y : ℕ} → IsLowest P x → IsLowest P y → x ≡ y

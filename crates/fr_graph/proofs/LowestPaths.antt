@@ -18,7 +18,7 @@ use Rattle.fr_graph.proofs.Lists.{all_default, push_cases}
 use Rattle.fr_graph.proofs.LowestCycles.{all_lead}
 use Rattle.fr_graph.proofs.RowsRead.{reads_on, same_nodes, top_is}
 use Rattle.fr_graph.proofs.SideRows.{entry_leads}
-use Rattle.fr_graph.specs.CycleSearch.{HasRead, LeadsOnlyTo, nodes_of}
+use Rattle.fr_graph.specs.Descents.{HasRead, LeadsOnlyTo, nodes_of}
 use Rattle.fr_graph.specs.Descents.{GoesOn, HasBegun, IsDescent, IsSkipped, LeadsFirst, LeadsNot, has_met, start_of}
 use Rattle.fr_graph.specs.Descents.{unmet_count}
 use Rattle.fr_graph.specs.Evidence.{IsLowestCycleBy}
@@ -27,7 +27,7 @@ use Rattle.fr_graph.specs.KeptRows.{net_in}
 use Rattle.fr_graph.specs.Links.{HasPath, IsCycle, IsPath, Points, end_of}
 use Rattle.fr_graph.specs.PathSearch.{AreFallingRows}
 use Rattle.fr_graph.specs.Tables.{Table, row_of}
-use Rattle.fr_graph.specs.declared.cycle.Step.{Step}
+use Rattle.fr_graph.specs.declared.lowest_cycle.Step.{Step}
 use Rattle.fr_graph.specs.declared.first.First.{First}
 use Rattle.fr_graph.specs.declared.first.First.TheVariants.{Outward}
 use Rattle.fr_graph.specs.declared.lowest_cycle.Descent.{Descent}

@@ -7,7 +7,7 @@ use Rattle.fr_graph.proofs.Giving.{filter_map-Contains, filter_map-from}
 use Rattle.fr_graph.proofs.Neighbours.{out_of_row, row_holds, row_of_link, row_rises}
 use Rattle.fr_graph.proofs.RowLists.{from_rows, into_rows}
 use Rattle.fr_graph.proofs.TurnedRows.{link_shown}
-use Rattle.fr_graph.specs.CycleSearch.{AreEntriesBelow, AreRowsRising}
+use Rattle.fr_graph.specs.Heads.{AreEntriesBelow, AreRowsRising}
 use Rattle.fr_graph.specs.Heights.{HasHeadsFirst}
 use Rattle.fr_graph.specs.KeptRows.{AreRows, links_in, net_in}
 use Rattle.fr_graph.specs.Links.{AreBelow, HaveSameLinks, Points}

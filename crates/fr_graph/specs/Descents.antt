@@ -1,15 +1,28 @@
 -- The state of the search for the lowest path from one node to another. For proofs only.
 use Rattle.std.specs.Prelude.{◌≡◌, ◌≢◌, ℕ, ◌<◌, ◌≤◌, ◌+◌, ◌-◌, ◌*◌, ◌⊎◌, Bool, true, false, not, List, [], ◌∷◌, length}
-use Rattle.std.specs.Prelude.{replicate, slice_index, slice_index_or, slice_set, vec_capacity, vec_len, count_by}
+use Rattle.std.specs.Prelude.{map, replicate, slice_index, slice_index_or, slice_set, vec_capacity, vec_len, count_by}
 use Rattle.std.specs.List.{All, Contains}
-use Rattle.fr_graph.specs.CycleSearch.{HasRead, nodes_of}
 use Rattle.fr_graph.specs.Evidence.{IsWayBy}
 use Rattle.fr_graph.specs.KeptRows.{net_in}
 use Rattle.fr_graph.specs.Links.{HasPath, Points}
-use Rattle.fr_graph.specs.Tables.{Table}
+use Rattle.fr_graph.specs.Tables.{Table, row_of}
 use Rattle.fr_graph.specs.declared.first.First.{First}
 use Rattle.fr_graph.specs.declared.first.First.TheVariants.{Outward}
 use Rattle.fr_graph.specs.declared.lowest_cycle.Descent.{Descent}
+use Rattle.fr_graph.specs.declared.lowest_cycle.Step.{Step}
+
+-- the nodes of the path
+abbrev pub nodes_of : List Step → List ℕ
+nodes_of path = map (λ (step : Step). step.node) path
+
+-- if the link of the entry leads to the neighbour, the neighbour has P
+abbrev pub LeadsOnlyTo : (ℕ → Type 0) → ℕ × First → Type 0
+LeadsOnlyTo P entry = entry.1 ≡ Outward → P entry.0
+
+-- the links before the next place in the row of this step lead to nodes with P
+pub record HasRead (rows : Table) (P : ℕ → Type 0) (step : Step) : Type 0 where
+  pub inside : step.next ≤ length (row_of rows step.node)
+  pub passed : (k : ℕ) (d : ℕ × First) → k < step.next → LeadsOnlyTo P (slice_index_or (row_of rows step.node) k d)
 
 -- whether the search has met x
 abbrev pub has_met : List Bool → ℕ → Bool

@@ -17,7 +17,7 @@ pub mod Tables
 pub mod KeptRows
 pub mod LinksLeft
 pub mod Heights
-pub mod CycleSearch
+pub mod Heads
 pub mod PathSearch
 pub mod Descents
 pub mod Graph

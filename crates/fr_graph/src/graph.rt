@@ -18,7 +18,7 @@ ghost use Rattle.fr_graph.specs.declared.fault.NetFault.TheVariants.{Memory};
 ghost use Rattle.fr_graph.specs.declared.edit.Edit.TheVariants.{Cut, Add, Join};
 
 use crate::checks::first_outside;
-use crate::cycle::{Found, find_cycle};
+use crate::cycle::find_cycle;
 use crate::edit::Edit;
 use crate::edits::{insert_link_in_rows, remove_link_from_rows};
 use crate::fault::{EditFault, NetFault};
@@ -29,6 +29,7 @@ use crate::lowest_cycle::lowest_cycle;
 use crate::path_search::{PathAnswer, path_between};
 use crate::row::place_in_row;
 use crate::row_table::RowTable;
+use fr_search::Found;
 use std::alloc::{AllocError, Global};
 
 /// The rows of a network, which hold its links, and heights of its nodes. If the heights are known, each link leads

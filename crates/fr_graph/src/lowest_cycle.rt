@@ -4,19 +4,24 @@
 //! the tail. It needs few rows, because it stops at the first path.
 
 ghost use Rattle.std.specs.Prelude.{◌≡◌, ◌≢◌, ℕ, ◌<◌, ◌≤◌, ◌∷◌, length, vec_len, slice_index_or, All, IfOk};
-ghost use Rattle.fr_graph.specs.CycleSearch.{LeadsOnlyTo, nodes_of};
-ghost use Rattle.fr_graph.specs.Descents.{GoesOn, HasBegun, HasHeights, IsDescent, IsSkipped, LeadsToUnmet};
-ghost use Rattle.fr_graph.specs.Descents.{last_of};
+ghost use Rattle.fr_graph.specs.Descents.{GoesOn, HasBegun, HasHeights, IsDescent, IsSkipped, LeadsOnlyTo};
+ghost use Rattle.fr_graph.specs.Descents.{LeadsToUnmet, last_of, nodes_of};
 ghost use Rattle.fr_graph.specs.Evidence.{IsLowestCycleBy};
 ghost use Rattle.fr_graph.specs.KeptRows.{net_in};
 ghost use Rattle.fr_graph.specs.Links.{HasPath};
 ghost use Rattle.fr_graph.specs.PathSearch.{AreFallingRows};
 
-use crate::cycle::Step;
 use crate::first::First;
 use crate::heights::Heights;
 use crate::row_table::RowTable;
 use std::alloc::{AllocError, Global};
+
+/// A node of the path, and the next place to read in its row.
+#[derive(Drop, Clone, Copy)]
+struct Step {
+    node: u32,
+    next: usize,
+}
 
 /// The state of the search.
 #[derive(Drop)]

@@ -23,7 +23,7 @@ ghost use Rattle.fr_graph.specs.Limits.{IsWithinLimits, most_edits};
 ghost use Rattle.fr_graph.specs.declared.edit.Edit.TheVariants.{Add, Join};
 
 use crate::checks::{first_outside, first_self_link};
-use crate::cycle::{Found, find_cycle};
+use crate::cycle::find_cycle;
 use crate::edit::Edit;
 use crate::fault::{EditFault, NetFault, NotEdited};
 use crate::first::First;
@@ -35,6 +35,7 @@ use crate::links::Links;
 use crate::row_table::RowTable;
 use crate::turned_rows::turn_rows;
 use crate::turns::Turns;
+use fr_search::Found;
 use std::alloc::{AllocError, Global};
 use std::marker::Model;
 
@@ -213,7 +214,7 @@ impl Net {
 
     /// The law of the order of a network's links: they increase by tail, and with equal tails by head. The function
     /// does nothing, like [`network_law`](Net::network_law).
-    pub fn order_law(&self)
+    pub fn link_order_law(&self)
         // The links are in ascending order, and none is there twice.
         ensures { AreRising self.now.links }
     {

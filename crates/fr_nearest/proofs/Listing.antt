@@ -17,16 +17,16 @@ use Rattle.fr_graph.specs.declared.first.First.{First}
 use Rattle.fr_graph.specs.declared.first.First.TheVariants.{Outward}
 use Rattle.fr_nearest.specs.Distances.{no_distance}
 use Rattle.fr_nearest.specs.Local.{Agrees, IsSmall}
-use Rattle.fr_nearest.specs.Touched.{AreEnds, Cuts, HasEndsBelow, IsCut, IsOutOfDate}
+use Rattle.fr_nearest.specs.LinkChanges.{AreEnds, Cuts, HasEndsBelow, IsCut, IsOutOfDate}
 use Rattle.fr_nearest.specs.Update.{HasNearer, HoldTo, IsListed, IsNear, IsPending, IsRaising, IsReversed, IsReversedAt}
 use Rattle.fr_nearest.specs.Update.{IsSeen, IsTouched, IsUnaffected, IsUnaffectedBy, IsWithin, KeepsOthers, Lists}
 use Rattle.fr_nearest.specs.Update.{ListsOne, ListsRow, ListsTurned, MayHave, Touches, direction_of}
 use Rattle.fr_nearest.specs.declared.update.Event.{Event}
 use Rattle.fr_nearest.specs.declared.update.Event.TheVariants.{Gained, Lost}
-use Rattle.fr_nearest.specs.declared.update.Touched.{Touched}
+use Rattle.fr_nearest.specs.declared.update.LinkChanges.{LinkChanges}
 use Rattle.fr_nearest.proofs.Entries.{hold_in, hold_more, hold_out}
 use Rattle.fr_nearest.proofs.Measuring.{agrees_of}
-use Rattle.fr_nearest.proofs.Noting.{in_or_out}
+use Rattle.fr_nearest.proofs.NotedNodes.{in_or_out}
 
 -- One node
 
@@ -218,7 +218,7 @@ listed_two {n} {table} {event} {May} {Might} {first} {then} {last} one two =
     two.all ∙ rw one.all (append_assoc first one.added two.added) in
     rw all (drop-append_seam first (one.added ++ two.added))
 
-module _ (net : Network) (touched : Touched) (d : ℕ) (table : List ℕ) (is_net : IsNet net.nodes net.links)
+module _ (net : Network) (touched : LinkChanges) (d : ℕ) (table : List ℕ) (is_net : IsNet net.nodes net.links)
     (few : net.nodes ≤ most_nodes) (small : IsSmall net.nodes table) (old : IsOutOfDate net touched d table) where
   -- the edits did not cut a link to a node that is not there
   cut_below : (x w : ℕ) → IsCut touched.edits.now x w → w < net.nodes

@@ -22,7 +22,7 @@ use Rattle.fr_nearest.specs.Affected.{HasOne, IsNextTo}
 use Rattle.fr_nearest.specs.Marks.{AreMarks, HasMarked, IsBehind, IsInward, IsMarked, IsNeighbour, IsReordered}
 use Rattle.fr_nearest.specs.Marks.{IsReorderedAt, IsUnmarked}
 use Rattle.fr_nearest.specs.declared.affected.Marks.{Marks}
-use Rattle.fr_nearest.proofs.Noting.{in_or_out}
+use Rattle.fr_nearest.proofs.NotedNodes.{in_or_out}
 
 -- One node
 

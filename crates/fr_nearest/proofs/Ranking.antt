@@ -26,7 +26,7 @@ use Rattle.fr_nearest.specs.Distances.{AreDistances, IsMeasureOf, Measured, no_d
 use Rattle.fr_nearest.specs.Ranks.{AreListed, AreListedTo, AreOut, AreRanked, AreRankedTo, AreSortedTo, IsBestSo, IsOut}
 use Rattle.fr_nearest.specs.Ranks.{WasOut}
 use Rattle.fr_nearest.specs.Ranks.{number_of, rank_of}
-use Rattle.fr_nearest.specs.Touched.{HadLinks}
+use Rattle.fr_nearest.specs.LinkChanges.{HadLinks}
 use Rattle.fr_nearest.specs.Ways.{AreWays, IsFirstWay, IsNearer, IsWay}
 use Rattle.fr_nearest.proofs.Walking.{distinct_of, has_path}
 

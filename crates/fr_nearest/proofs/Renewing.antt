@@ -8,7 +8,7 @@ use Rattle.fr_graph.specs.Network.{Network}
 use Rattle.fr_nearest.specs.Changes.{AreAllNoted}
 use Rattle.fr_nearest.specs.Distances.{AreDistances, IsRenewed, Measured}
 use Rattle.fr_nearest.specs.declared.distance_changes.DistanceChanges.{DistanceChanges}
-use Rattle.fr_nearest.proofs.Noting.{changed_of}
+use Rattle.fr_nearest.proofs.NotedNodes.{changed_of}
 
 -- The vector has got the distances `now` as its elements, and the changes are noted of what is read from it
 pub renewed : (net : Network) (d : ℕ) (old : Measured) (of : Vec ℕ Global) {first now read : List ℕ}

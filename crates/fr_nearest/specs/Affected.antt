@@ -7,9 +7,9 @@ use Rattle.fr_graph.specs.Network.{Network}
 use Rattle.fr_graph.specs.declared.edit.Edit.{Edit}
 use Rattle.fr_graph.specs.declared.edit.Edit.TheVariants.{Add, Cut, Join}
 use Rattle.fr_nearest.specs.Distances.{AreDistances}
-use Rattle.fr_nearest.specs.Touched.{AreKept, AreNew}
+use Rattle.fr_nearest.specs.LinkChanges.{AreKept, AreNew}
 use Rattle.fr_nearest.specs.Ways.{AreWays}
-use Rattle.fr_nearest.specs.declared.update.Touched.{Touched}
+use Rattle.fr_nearest.specs.declared.update.LinkChanges.{LinkChanges}
 
 -- the value of an `Affected` in contracts: the listed nodes, and the number of nodes that there is room for
 pub record Affecting : Type 0 where
@@ -41,7 +41,7 @@ abbrev pub IsNextTo : List (ℕ × ℕ) → ℕ → ℕ → Type 0
 IsNextTo links x y = (y ≡ x) ⊎ Joins links x y
 
 -- y is an end of an edited link, a node that has turned, or a neighbour of one
-abbrev pub IsTouchedBy : Network → Touched → ℕ → Type 0
+abbrev pub IsTouchedBy : Network → LinkChanges → ℕ → Type 0
 IsTouchedBy net touched y = HasOne IsEnd touched.edits.now y ⊎ HasOne (IsNextTo net.links) touched.turned.now y
 
 -- y has a link to a node whose distance has changed
@@ -50,7 +50,7 @@ IsBehindChange links before table y = (w : ℕ) × Points links y w × (slice_in
 
 -- Nodes in ascending order, with the ends of each edit. Only nodes near a change are listed, and each node that is not
 -- listed has kept its ways, whatever the earlier links and destination were.
-pub record AreAffected (net : Network) (touched : Touched) (before table list : List ℕ) : Type 0 where
+pub record AreAffected (net : Network) (touched : LinkChanges) (before table list : List ℕ) : Type 0 where
   pub order : IsStrictlyIncreasing list
   pub below : All (λ (x : ℕ). x < net.nodes) list
   pub ends : (e : Edit) → Contains touched.edits.now e → HasEnds list e

@@ -1,6 +1,6 @@
 pub mod Distances
 pub mod Ways
-pub mod Touched
+pub mod LinkChanges
 pub mod Local
 pub mod Search
 pub mod Update

@@ -9,7 +9,7 @@ use Rattle.fr_graph.specs.declared.first.First.{First}
 use Rattle.fr_graph.specs.declared.first.First.TheVariants.{Inward, Outward}
 use Rattle.fr_nearest.specs.Distances.{AreDistances, no_distance}
 use Rattle.fr_nearest.specs.Local.{Agrees, IsSmall, one_farther}
-use Rattle.fr_nearest.specs.Touched.{Adds, Cuts}
+use Rattle.fr_nearest.specs.LinkChanges.{Adds, Cuts}
 use Rattle.fr_nearest.specs.declared.update.Event.{Event}
 use Rattle.fr_nearest.specs.declared.update.Event.TheVariants.{Gained, Lost}
 

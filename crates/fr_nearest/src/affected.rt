@@ -6,10 +6,10 @@ ghost use Rattle.fr_nearest.specs.Affected.{HasOne, IsEnd};
 ghost use Rattle.fr_nearest.specs.Marks.{AreMarks, ComesFirst, HasMarked, HasOneEach, IsBehind};
 ghost use Rattle.fr_nearest.specs.Affected.{IsNextTo};
 ghost use Rattle.fr_nearest.specs.Marks.{IsMoved, IsReordered, IsUnmarked, StaysInOrder};
-ghost use Rattle.fr_nearest.specs.Touched.{HasEndsBelow};
+ghost use Rattle.fr_nearest.specs.LinkChanges.{HasEndsBelow};
 
 use crate::distances::{Distances, NONE};
-use crate::update::Touched;
+use crate::update::LinkChanges;
 use crate::ways::way_rank;
 use fr_graph::{Edit, First, Net};
 use std::alloc::{AllocError, Global};
@@ -256,7 +256,7 @@ impl Affected {
     /// cannot fail and does not allocate.
     ///
     /// O(e + (t + c d) d + k log k) for e edits, t nodes that have turned, c changes of distances, and k listed nodes.
-    pub fn list(&mut self, net: &Net, touched: &Touched<'_>, distances: &Distances)
+    pub fn list(&mut self, net: &Net, touched: &LinkChanges<'_>, distances: &Distances)
         requires room { net.now.nodes ≤ self.old.room }
         requires one_each { length distances.now.table ≡ net.now.nodes }
         requires edits { All (HasEndsBelow net.now.nodes) touched.now.edits.now }

@@ -40,7 +40,6 @@ impl AllWays {
 fn neighbour_rooms(alloc: Global, net: &Net) -> Result<(Vec<usize>, usize), AllocError>
     ensures { IfOk result (λ made. AreRooms (degree net.now) net.now.nodes made.0.items made.1) }
 {
-    net.network_law();
     let mut starts = Vec::with_capacity(alloc, net.nodes() as usize)?;
     let mut room = 0;
     for x in 0..net.nodes() {

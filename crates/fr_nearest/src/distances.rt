@@ -2,11 +2,11 @@
 
 ghost use Rattle.std.specs.Prelude.{◌≡◌, ◌<◌, [], IfOk, length, slice_index};
 ghost use Rattle.fr_nearest.specs.Distances.{AreChanged, IsMeasureOf, IsRenewed, distance_of};
-ghost use Rattle.fr_nearest.specs.Touched.{IsOutOfDate};
+ghost use Rattle.fr_nearest.specs.LinkChanges.{IsOutOfDate};
 
 use crate::distance_changes::DistanceChanges;
 use crate::search::measure_all;
-use crate::update::{Touched, update};
+use crate::update::{LinkChanges, try_update};
 use fr_graph::Net;
 use std::alloc::{AllocError, Global};
 use std::marker::Model;
@@ -74,7 +74,6 @@ impl Distances {
         ensures same { IfOk result (λ made. made.before ≡ made.table) }
         ensures none { IfOk result (λ made. made.changed ≡ []) }
     {
-        net.network_law();
         let nodes = net.nodes() as usize;
         let mut of = vec![in alloc; NONE; nodes]?;
         let mut list = Vec::with_capacity(alloc, nodes)?;
@@ -93,7 +92,6 @@ impl Distances {
     pub fn unmeasured(alloc: Global, net: &Net) -> Result<Distances, AllocError>
         ensures { IfOk result (λ made. length made.table ≡ net.now.nodes) }
     {
-        net.network_law();
         let nodes = net.nodes() as usize;
         let of = vec![in alloc; NONE; nodes]?;
         let list = Vec::with_capacity(alloc, nodes)?;
@@ -128,7 +126,7 @@ impl Distances {
     /// an edited link that is only the farther end, if at all. Of a node that has turned, it is the node itself and
     /// neighbours that are farther from the destination. If more than n nodes have to be looked at, or if the destination
     /// has moved, the distances are measured anew, in O(n + m).
-    pub fn renew(&mut self, net: &Net, dest: u32, touched: &Touched<'_>)
+    pub fn renew(&mut self, net: &Net, dest: u32, touched: &LinkChanges<'_>)
         requires node { dest < net.now.nodes }
         requires old { IsOutOfDate net.now touched.now self.old.dest self.old.table }
         // The update cannot fail. It lists exactly the nodes whose distance changed, each once, and keeps the
@@ -139,7 +137,7 @@ impl Distances {
         let last = self.dest;
         self.dest = dest;
         self.changes.reset(&self.of);
-        if update(net, last, dest, touched, &mut self.of, &mut self.list) {
+        if try_update(net, last, dest, touched, &mut self.of, &mut self.list) {
             self.changes.note_changed_among(&self.of, &self.list);
         } else {
             measure_all(net, dest, &mut self.of, &mut self.list);

@@ -24,4 +24,4 @@ mod ways;
 pub use affected::Affected;
 pub use all_ways::AllWays;
 pub use distances::Distances;
-pub use update::Touched;
+pub use update::LinkChanges;

@@ -7,7 +7,7 @@ ghost use Rattle.fr_graph.specs.Limits.{most_nodes};
 ghost use Rattle.fr_graph.specs.declared.first.First.TheVariants.{Inward, Outward};
 ghost use Rattle.fr_nearest.specs.Distances.{no_distance};
 ghost use Rattle.fr_nearest.specs.Local.{IsByLinks, IsSmall, one_farther};
-ghost use Rattle.fr_nearest.specs.Touched.{HasEndsBelow, IsOutOfDate};
+ghost use Rattle.fr_nearest.specs.LinkChanges.{HasEndsBelow, IsOutOfDate};
 ghost use Rattle.fr_nearest.specs.Update.{IsLeastWay, IsListed, IsPending, IsRaising, IsReversed, IsTouched};
 ghost use Rattle.fr_nearest.specs.Update.{IsUnaffected, IsUnaffectedBy, IsUpdated, KeepsOthers, Lists, ListsAffected};
 ghost use Rattle.fr_nearest.specs.Update.{ListsOne, ListsTurned, RaisesOne, SetsOne, Touches, UpdatesOne, direction_of};
@@ -17,7 +17,7 @@ use fr_graph::{Edit, First, Net};
 
 /// How the links have changed since the last update.
 #[derive(Clone, Copy)]
-pub struct Touched<'a> {
+pub struct LinkChanges<'a> {
     /// Links were removed or added only by these edits.
     pub edits: &'a [Edit],
     /// Links were reversed only at these nodes.
@@ -190,11 +190,11 @@ fn list_turned(
 /// Updates the distances of all nodes for which they can be wrong. `last` is the destination of the distances, and
 /// `dest` the new one. Lists the nodes whose distance may have changed. Returns `false` if the destination has moved,
 /// or if this takes more steps than there are nodes; then the distances have to be measured anew.
-pub(crate) fn update(
+pub(crate) fn try_update(
     net: &Net,
     last: u32,
     dest: u32,
-    touched: &Touched<'_>,
+    touched: &LinkChanges<'_>,
     distances: &mut [u16],
     list: &mut Vec<u16>,
 ) -> bool

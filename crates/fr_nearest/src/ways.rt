@@ -6,7 +6,7 @@ ghost use Rattle.fr_graph.specs.Links.{HasPath};
 ghost use Rattle.fr_graph.specs.Rows.{row};
 ghost use Rattle.fr_graph.specs.declared.first.First.TheVariants.{Outward};
 ghost use Rattle.fr_nearest.specs.Distances.{AreDistances, IsMeasureOf, no_distance};
-ghost use Rattle.fr_nearest.specs.Touched.{HadLinks};
+ghost use Rattle.fr_nearest.specs.LinkChanges.{HadLinks};
 ghost use Rattle.fr_nearest.specs.Ways.{AreWays, IsFirstWay, IsNearestWalk, IsWay};
 ghost use Rattle.fr_nearest.specs.Ranks.{AreRanked, AreSortedTo, PointedAway, number_of};
 
@@ -153,7 +153,7 @@ impl Distances {
     /// work: its values then mean nothing.
     ///
     /// The slice must have one place for each node of the network. O(d log d).
-    pub fn ways_in(&self, net: &Net, x: u32, space: &mut [u32]) -> usize
+    pub fn write_ways(&self, net: &Net, x: u32, space: &mut [u32]) -> usize
         requires measured { IsMeasureOf net.now self.now }
         requires node { x < net.now.nodes }
         requires space { net.now.nodes ≤ length space.old }
@@ -167,12 +167,12 @@ impl Distances {
         count
     }
 
-    /// Lists the ways that node `x` had before the last update, as `ways_in` lists those that it has. Since then a round
+    /// Lists the ways that node `x` had before the last update, as `write_ways` lists those that it has. Since then a round
     /// may have reversed links, and `counts` says how often each node has turned in it. No link of the node may have
     /// been added or removed.
     ///
     /// The slice must have one place for each node of the network. O(d log d).
-    pub fn ways_before_in(&self, net: &Net, counts: &[u64], x: u32, space: &mut [u32]) -> usize
+    pub fn write_ways_before(&self, net: &Net, counts: &[u64], x: u32, space: &mut [u32]) -> usize
         requires counted { length counts.now ≡ net.now.nodes }
         requires before { length self.now.before ≡ net.now.nodes }
         requires node { x < net.now.nodes }

@@ -22,7 +22,7 @@ use Rattle.fr_ways.specs.Phases.{empties, growing_nodes, grows, is_empty, kept, 
 use Rattle.fr_ways.specs.Phases.{shrinking_nodes, shrunk}
 use Rattle.fr_ways.specs.Ways.{ways}
 use Rattle.fr_ways.proofs.Shrinking.{filter_from, shrunk_other}
-use Rattle.fr_shared_ways.specs.Histories.{ListsChanges}
+use Rattle.fr_shared.specs.WayTables.{ListsChanges}
 use Rattle.fr_readers.specs.Published.{HasFirstWays, WayPushes}
 use Rattle.fr_readers.specs.Publishing.{AlterWays}
 

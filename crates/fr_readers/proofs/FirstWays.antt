@@ -21,10 +21,10 @@ use Rattle.fr_ways.specs.Ways.{Sends, ways}
 use Rattle.fr_ways.proofs.Parts.{part_free}
 use Rattle.fr_ways.proofs.Planning.{differs_no}
 use Rattle.fr_ways.proofs.Shrinking.{any_true, shrunk_other, way_yes}
-use Rattle.fr_shared_ways.specs.Histories.{IsTable, blank, push, pushes_of}
-use Rattle.fr_shared_ways.specs.declared.view.Push.{Push}
-use Rattle.fr_shared_ways.specs.Knowledge.{Knowledge as WayKnowledge, last_table}
-use Rattle.fr_shared_ways.proofs.Histories.{blank_is_table, blank_ways}
+use Rattle.fr_shared.specs.WayTables.{IsTable, WayKnowledge, last_ways, pushes_of, way_codec}
+use Rattle.fr_shared.specs.Histories.{blank, push}
+use Rattle.fr_shared.specs.declared.view.Push.{Push}
+use Rattle.fr_shared.proofs.WayTables.{blank_is_table, blank_ways}
 use Rattle.fr_readers.specs.Published.{AreFirstWays, HasFirstWays, HasWaysOf}
 use Rattle.fr_readers.specs.Publishing.{IsSettled, IsSettledSession, PublishesWays, PublishesWaysIn}
 
@@ -124,7 +124,7 @@ module _ (table : List (List ℕ)) where
   pub no_pushes : pushes_of table table ≡ []
   no_pushes =
       let xs : List ℕ = range_with_len 0 (length table) in
-      let list : ℕ → Push = λ x. push x (kept table table x) in
+      let list : ℕ → Push (List ℕ) = λ x. push x (kept table table x) in
       let none_shed : filter (sheds table table) xs ≡ [] = filter_none (sheds table table) xs
       (λ x. ap (λ (b : Bool). b && not (is_empty (kept table table x))) (loses_none x)) in
       let none_emptied : filter (empties table table) xs ≡ [] = filter_none (empties table table) xs
@@ -136,10 +136,10 @@ module _ (table : List (List ℕ)) where
 pub ways_left : (k : WayKnowledge) (s : Option State) (k' : WayKnowledge) → HasWaysOf s k → PublishesWays k s k'
     → k' ≡ k
 ways_left k s k' has p = ⊎_elim (λ same. same) (λ pushed.
-    let same : last_table k' ≡ last_table k = same_first s (last_table k') (last_table k) p.has.are has.are in
-    pushed ∙ (ap (λ (t : List (List ℕ)). record k { known = k.known ++ pushes_of (last_table k) t }) same
-    ∙ (ap (λ (h : List Push). record k { known = k.known ++ h }) (no_pushes (last_table k))
-    ∙ ap (λ (h : List Push). record k { known = h }) (append-nil k.known))))
+    let same : last_ways k' ≡ last_ways k = same_first s (last_ways k') (last_ways k) p.has.are has.are in
+    pushed ∙ (ap (λ (t : List (List ℕ)). record k { known = k.known ++ pushes_of (last_ways k) t }) same
+    ∙ (ap (λ (h : List (Push (List ℕ))). record k { known = k.known ++ h }) (no_pushes (last_ways k))
+    ∙ ap (λ (h : List (Push (List ℕ))). record k { known = h }) (append-nil k.known))))
     p.by
 
 pub ways_left_in : (w : Option WayKnowledge) (s : Option State) (w' : Option WayKnowledge) → IfSome w (HasWaysOf s)
@@ -173,6 +173,7 @@ set_each P node i table list low each is k lower = ⊎_elim
     (cases_eq (node k) (node i))
 
 pub all_blank : (table : List (List ℕ)) → length table ≡ most_nodes → ((x : ℕ) → ways table x ≡ [])
-    → table ≡ blank most_nodes
-all_blank table long none = ext_get_or [] table (blank most_nodes) (long ∙ sym (blank_is_table most_nodes).one_each)
+    → table ≡ blank way_codec most_nodes
+all_blank table long none = ext_get_or [] table (blank way_codec most_nodes) (long
+    ∙ sym (blank_is_table most_nodes).one_each)
     (λ x low. none x ∙ sym (blank_ways most_nodes x))

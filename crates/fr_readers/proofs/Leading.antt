@@ -18,10 +18,9 @@ use Rattle.fr_route.proofs.SettledHops.{outside_cut, settled_table}
 use Rattle.fr_tables.specs.Pushes.{IsPushOrder}
 use Rattle.fr_tables.specs.declared.hop.Hop.{Hop}
 use Rattle.fr_tables.specs.declared.hop.Hop.TheVariants.{CutOff, Here}
-use Rattle.fr_shared.specs.Histories.{IsTable, padded}
-use Rattle.fr_shared.specs.Knowledge.{Knowledge, last_table}
-use Rattle.fr_shared.proofs.Histories.{blank_is_table}
-use Rattle.fr_shared.proofs.Padding.{padded_hop, padded_length, padded_order, padded_table}
+use Rattle.fr_shared.specs.HopTables.{HopKnowledge, IsTable, last_hops, padded}
+use Rattle.fr_shared.proofs.HopTables.{blank_is_table}
+use Rattle.fr_shared.proofs.HopPadding.{padded_hop, padded_length, padded_order, padded_table}
 use Rattle.fr_readers.specs.Published.{HasHopsOf}
 use Rattle.fr_readers.specs.Publishing.{AreHopsOf, CanPublish, IsSettled, IsSettledSession, LeadsTo}
 
@@ -136,14 +135,14 @@ changed_nodes s (Join u v) new is = is.1.1.nodes ∙ joined_nodes s.nodes s.link
 changed_nodes s (Batch edits) new is = is.1.1.1.nodes ∙ made_nodes (net_at s) edits.items is.1.0 is.1.1.0
 changed_nodes s (Destination d) new is = is.1.nodes
 
-pub leads_to : (s t : Option State) → IsSettledSession s → IsSettledSession t → (k : Knowledge) → HasHopsOf s k
+pub leads_to : (s t : Option State) → IsSettledSession s → IsSettledSession t → (k : HopKnowledge) → HasHopsOf s k
     → (nodes : List ℕ) → Leads s t nodes
     → LeadsTo k t nodes
 leads_to s t settled settled' k has nodes l =
     let long : length l.before ≡ length l.after =
     length_in s l.count l.before l.were ∙ sym (length_in t l.count l.after l.are) in
-    let old : padded most_nodes l.before ≡ last_table k =
-    same_hops s most_nodes (padded most_nodes l.before) (last_table k)
+    let old : padded most_nodes l.before ≡ last_hops k =
+    same_hops s most_nodes (padded most_nodes l.before) (last_hops k)
     (longer_in s settled l.count l.before l.enough.0 l.few l.were) has.are in
     record {
       hops = padded most_nodes l.after;
@@ -155,11 +154,11 @@ leads_to s t settled settled' k has nodes l =
 -- a call leaves the session unchanged, or the nodes lead to its new hops
 pub can_publish : (s t : Option State) → IsSettledSession s → IsSettledSession t → (nodes : List ℕ)
     → (t ≡ s) ⊎ Leads s t nodes
-    → (k : Knowledge) → HasHopsOf s k → CanPublish k t nodes
+    → (k : HopKnowledge) → HasHopsOf s k → CanPublish k t nodes
 can_publish s t settled settled' nodes by k has = record {
   largest = has.largest;
   can = ⊎_elim
-      (λ same. inl (subst (λ (u : Option State). AreHopsIn u most_nodes (last_table k)) (sym same) has.are))
+      (λ same. inl (subst (λ (u : Option State). AreHopsIn u most_nodes (last_hops k)) (sym same) has.are))
       (λ l. inr (leads_to s t settled settled' k has nodes l)) by;
 }
 

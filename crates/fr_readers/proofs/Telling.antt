@@ -24,8 +24,8 @@ use Rattle.fr_route.specs.declared.fault.AnswerFault.TheVariants.{Start}
 use Rattle.fr_route.specs.declared.fault.NotMade.{NotMade}
 use Rattle.fr_route.specs.declared.fault.RouteFault.TheVariants.{Start as RouteStart}
 use Rattle.fr_route.proofs.Changing.{made_nodes}
-use Rattle.fr_shared.specs.Knowledge.{Knowledge}
-use Rattle.fr_shared_ways.specs.Knowledge.{Knowledge as WayKnowledge, last_table}
+use Rattle.fr_shared.specs.HopTables.{HopKnowledge}
+use Rattle.fr_shared.specs.WayTables.{WayKnowledge, last_ways}
 use Rattle.fr_readers.specs.Answers.{AnswersLine, ChangesRouter, MakesChange, Notes}
 use Rattle.fr_readers.specs.Published.{HasHopsOf, HasWaysOf, Published, WayPushes, published}
 use Rattle.fr_readers.specs.Publishing.{AlterWays, IsSettled, IsSettledSession, PublishesIn, PublishesWaysIn}
@@ -188,7 +188,7 @@ pub change_alters : (s next : State) (change : Change) (answer : Result Report N
     (k : WayKnowledge)
     → HasWaysOf (Some s) k → ChangesRouter s change answer next
     → IfOk answer (λ _. AreWayChanges s next p.shrink p.grow)
-    → MatchBool (is_ok answer) (AlterWays (last_table k) next p) (HasWaysOf (Some next) k)
+    → MatchBool (is_ok answer) (AlterWays (last_ways k) next p) (HasWaysOf (Some next) k)
 change_alters s next change (Ok report) p k has changes ways =
     record { before = s; had = has.are; nodes = changed_nodes s change next changes.changed; changes = ways }
 change_alters s next change (Err why) p k has changes ways =
@@ -207,7 +207,7 @@ change_notes s next (Err why) ps ps' ways left = record { made = tt; fault = lef
 
 -- The answers of a session and its router, with publishing
 
-module _ (s s' : Option State) (nodes nodes' : List ℕ) (t t' : Option Knowledge) (w w' : Option WayKnowledge) where
+module _ (s s' : Option State) (nodes nodes' : List ℕ) (t t' : Option HopKnowledge) (w w' : Option WayKnowledge) where
   -- what leaves the session, the list and the pushes unchanged leaves the tables unchanged
   all_left : (ps ps' : WayPushes) → ps' ≡ ps → IfSome t (HasHopsOf s) → PublishesIn t s' nodes' t'
       → IfSome w (HasWaysOf s) → PublishesWaysIn w s' w'
@@ -264,7 +264,7 @@ module _ (s s' : Option State) (nodes nodes' : List ℕ) (t t' : Option Knowledg
     no_start = no_start;
   }
 
-module _ (s s' : State) (nodes nodes' : List ℕ) (t t' : Option Knowledge) (w w' : Option WayKnowledge) where
+module _ (s s' : State) (nodes nodes' : List ℕ) (t t' : Option HopKnowledge) (w w' : Option WayKnowledge) where
   pub change_made : (ps ps' : WayPushes) → IfSome t (HasHopsOf (Some s)) → PublishesIn t (Some s') nodes' t'
       → IfSome w (HasWaysOf (Some s))
       → PublishesWaysIn w (Some s') w' → (change : Change) (answer : Result Report NotMade)

@@ -2,7 +2,7 @@
 use Rattle.std.specs.Prelude.{◌≡◌, ◌+◌, ◌≤◌, IfSome, length, Option, Some, None, vec_capacity}
 use Rattle.fr_graph.specs.Limits.{most_nodes}
 use Rattle.fr_route.specs.Reroutes.{Rerouted}
-use Rattle.fr_shared_ways.specs.Knowledge.{Knowledge as WayKnowledge, last_table as last_ways}
+use Rattle.fr_shared.specs.WayTables.{WayKnowledge, last_ways}
 use Rattle.fr_readers.specs.declared.ways.WayTables.TheInside.{Inside as InTables}
 use Rattle.fr_readers.specs.Published.{HasHopsOf, HasWaysOf, Published, WayPushes, no_pushes, published}
 use Rattle.fr_readers.specs.declared.session.PublishedSession.TheInside.{Inside}

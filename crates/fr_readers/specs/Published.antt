@@ -5,10 +5,10 @@ use Rattle.fr_route.specs.Reroutes.{AreHopsIn}
 use Rattle.fr_route.specs.States.{State}
 use Rattle.fr_route.specs.NodeWays.{AreNodeWays}
 use Rattle.fr_route.specs.WayPushes.{AreWayChanges}
-use Rattle.fr_shared.specs.Knowledge.{Knowledge, last_table}
+use Rattle.fr_shared.specs.HopTables.{HopKnowledge, last_hops}
 use Rattle.fr_ways.specs.Ways.{ways}
-use Rattle.fr_shared_ways.specs.Histories.{blank}
-use Rattle.fr_shared_ways.specs.Knowledge.{Knowledge as WayKnowledge, last_table as last_ways}
+use Rattle.fr_shared.specs.Histories.{blank}
+use Rattle.fr_shared.specs.WayTables.{WayKnowledge, last_ways, way_codec}
 
 -- what has to be pushed to routers that hold all their ways: first nodes shrink, and then nodes grow
 pub record WayPushes : Type 0 where
@@ -23,11 +23,11 @@ no_pushes = record { shrink = []; grow = [] }
 pub record Published : Type 0 where
   pub session : Option State
   pub rerouted : List ℕ
-  pub table : Option Knowledge
+  pub table : Option HopKnowledge
   pub ways : Option WayKnowledge
   pub pushes : WayPushes
 
-abbrev pub published : Option State → List ℕ → Option Knowledge → Option WayKnowledge → WayPushes → Published
+abbrev pub published : Option State → List ℕ → Option HopKnowledge → Option WayKnowledge → WayPushes → Published
 published s nodes t w p = record { session = s; rerouted = nodes; table = t; ways = w; pushes = p }
 
 -- the pushes lead from the ways of all nodes in one session to those in another
@@ -40,9 +40,9 @@ pub record LeadsBetween (old new : Option State) (p : WayPushes) : Type 0 where
 
 -- the table has as many nodes as the largest network, and the hops of the session. A number that is not a node is cut
 -- off
-pub record HasHopsOf (s : Option State) (k : Knowledge) : Type 0 where
+pub record HasHopsOf (s : Option State) (k : HopKnowledge) : Type 0 where
   pub largest : k.nodes ≡ most_nodes
-  pub are : AreHopsIn s most_nodes (last_table k)
+  pub are : AreHopsIn s most_nodes (last_hops k)
 
 -- the first five ways of each node of a state, or all if there are fewer. A number that is not a node has none
 pub record HasFirstWays (s : State) (table : List (List ℕ)) : Type 0 where
@@ -51,7 +51,7 @@ pub record HasFirstWays (s : State) (table : List (List ℕ)) : Type 0 where
   pub others : (x : ℕ) → s.nodes ≤ x → ways table x ≡ []
 
 abbrev pub AreFirstWays : Option State → List (List ℕ) → Type 0
-AreFirstWays None table = table ≡ blank most_nodes
+AreFirstWays None table = table ≡ blank way_codec most_nodes
 AreFirstWays (Some s) table = HasFirstWays s table
 
 -- the table of ways has as many nodes as the largest network, and the first ways of the session

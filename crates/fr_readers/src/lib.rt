@@ -18,6 +18,6 @@ mod session;
 mod tests;
 mod ways;
 
-pub use fr_shared::{Past, Reader};
-pub use fr_shared_ways::{Past as WayPast, Reader as WayReader};
+pub use fr_shared::hops::{Past, Reader};
+pub use fr_shared::ways::{Past as WayPast, Reader as WayReader};
 pub use session::PublishedSession;

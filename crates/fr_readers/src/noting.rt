@@ -111,7 +111,7 @@ pub(crate) fn change_and_note(
     let Some(noted) = reroutes else {
         unreachable!()
     };
-    let report = router.change_telling_ways_alone(alloc, change, noted)?;
+    let report = router.change_with_ways_alone(alloc, change, noted)?;
     rerouted.clear();
     push_nodes(rerouted, noted.nodes());
     Ok(report)

@@ -6,13 +6,12 @@ ghost use Rattle.fr_route.specs.Reroutes.{AreReplaced};
 ghost use Rattle.fr_readers.specs.Published.{HasHopsOf};
 ghost use Rattle.fr_readers.specs.Publishing.{AreHopsOf, CanPublish, HasHopAt};
 ghost use Rattle.fr_readers.specs.Publishing.{IsSettled, IsSettledSession, Publishes, PublishesIn};
-ghost use Rattle.fr_shared.specs.Histories.{padded};
-ghost use Rattle.fr_shared.specs.Knowledge.{last_table};
+ghost use Rattle.fr_shared.specs.HopTables.{last_hops, padded};
 ghost use Rattle.fr_tables.specs.declared.hop.Hop.TheVariants.{CutOff};
 
 use fr_graph::MAX_NODES;
 use fr_route::{Hop, Router, Session};
-use fr_shared::{Publisher, open};
+use fr_shared::hops::{Publisher, open};
 use std::alloc::{AllocError, Global};
 
 /// The network of a router is the result of a round. The function does nothing.
@@ -59,7 +58,7 @@ fn hops_in(session: &Session) -> &[Hop]
 /// Whether a published table has the same hop of node `x` as these hops. A node past their end is cut off.
 fn has_hop(publisher: &mut Publisher, hops: &[Hop], x: u32) -> bool
     requires { length hops.now ≤ publisher.old.nodes }
-    ensures same { IsTrue result ↔ HasHopAt (last_table publisher.old) (padded publisher.old.nodes hops.now) x }
+    ensures same { IsTrue result ↔ HasHopAt (last_hops publisher.old) (padded publisher.old.nodes hops.now) x }
     ensures kept { publisher.new ≡ publisher.old }
 {
     publisher.history_law();

@@ -16,8 +16,8 @@ use crate::ways::{WayTables, publish_changes, publish_ways};
 use fr_route::{
     AnswerFault, Change, NotMade, Report, Reroutes, RouteFault, Router, Session, Walked,
 };
-use fr_shared::{Past, Publisher, Reader};
-use fr_shared_ways as shared_ways;
+use fr_shared::hops::{Past, Publisher, Reader};
+use fr_shared::ways as shared_ways;
 use fr_ways::PushList;
 use std::alloc::{AllocError, Global};
 use std::marker::Model;
@@ -274,7 +274,7 @@ impl PublishedSession {
     /// pushes of the change before are kept.
     ///
     /// The cost is that of
-    /// [`change_telling_ways_alone`](fr_route::Router::change_telling_ways_alone), and one step for each rerouted node.
+    /// [`change_with_ways_alone`](fr_route::Router::change_with_ways_alone), and one step for each rerouted node.
     /// The first call takes the memory for the notes, and all later ones use it again. Publishing the ways to readers
     /// costs O(k (log k + d log d)) more, for the k nodes whose ways the change has altered and at most d links of each:
     /// no other node is looked at.

@@ -6,8 +6,7 @@ ghost use Rattle.std.specs.List.Sorted.{IsNonDecreasing, IsPermutation};
 ghost use Rattle.fr_graph.specs.Limits.{most_nodes};
 ghost use Rattle.fr_route.specs.NodeWays.{AreNodeWays};
 ghost use Rattle.fr_ways.specs.Ways.{ways};
-ghost use Rattle.fr_shared_ways.specs.Histories.{IsTable, ListsChanges};
-ghost use Rattle.fr_shared_ways.specs.Knowledge.{last_table};
+ghost use Rattle.fr_shared.specs.WayTables.{IsTable, ListsChanges, last_ways};
 ghost use Rattle.fr_readers.specs.Inside.{pushes_in};
 ghost use Rattle.fr_readers.specs.Published.{AreFirstWays, HasWaysOf};
 ghost use Rattle.fr_readers.specs.Publishing.{AlterWays, IsSettled, IsSettledSession, PublishesWays};
@@ -17,7 +16,7 @@ use crate::noting::{grow_of, push_nodes, shrink_of};
 use crate::publishing::router_law;
 use fr_graph::MAX_NODES;
 use fr_route::{Reroutes, Router, Session};
-use fr_shared_ways::{FirstWays, Publisher, Reader, open};
+use fr_shared::ways::{FirstWays, Publisher, Reader, open};
 use std::alloc::{AllocError, Global};
 use std::marker::Model;
 
@@ -34,9 +33,9 @@ pub(crate) struct WayTables {
 }
 
 impl Model for WayTables {
-    ghost use Rattle.fr_shared_ways.specs.Knowledge.{Knowledge};
+    ghost use Rattle.fr_shared.specs.WayTables.{WayKnowledge};
 
-    ghost Value = { Knowledge };
+    ghost Value = { WayKnowledge };
 
     ghost use Rattle.fr_readers.specs.Inside.{AreReady, ways_known};
 
@@ -67,12 +66,12 @@ impl WayTables {
         ensures published { PublishesWays self.old session.old self.new }
     {
         set_session_ways(&mut self.wanted, &mut self.space, session);
-        self.publisher.push_all(&self.wanted);
+        self.publisher.push_phases(&self.wanted);
     }
 
     /// Pushes the ways of a router that a change has altered, which these reroutes note. It looks at no other node.
     fn push_changed_ways(&mut self, router: &mut Router, reroutes: &Option<Reroutes>)
-        requires { AlterWays (last_table self.old) router.old (pushes_in reroutes.now) }
+        requires { AlterWays (last_ways self.old) router.old (pushes_in reroutes.now) }
         ensures same { router.new ≡ router.old }
         ensures published { PublishesWays self.old (Some router.old) self.new }
     {
@@ -126,7 +125,7 @@ fn set_router_ways(wanted: &mut FirstWays, space: &mut [u32], router: &mut Route
         → (list : List ℕ) × AreNodeWays router.old x list × (ways wanted.new x ≡ take 5 list) }
 {
     for x in 0..router.net().nodes() {
-        let count = router.ways_in(x, space);
+        let count = router.write_ways(x, space);
         wanted.set(x, &space[..count]);
     }
 }
@@ -177,7 +176,7 @@ fn set_listed_ways(wanted: &mut FirstWays, space: &mut [u32], router: &mut Route
     ensures others { (x : ℕ) → Contains nodes.now x ⊎ (ways wanted.new x ≡ ways wanted.old x) }
 {
     for x in nodes {
-        let count = router.ways_in(*x, space);
+        let count = router.write_ways(*x, space);
         wanted.set(*x, &space[..count]);
     }
 }
@@ -219,7 +218,7 @@ pub(crate) fn publish_changes(
     is_made: bool,
 )
     requires { IfSome tables.old (λ k. MatchBool is_made
-        (AlterWays (last_table k) router.old (pushes_in reroutes.now)) (HasWaysOf (Some router.old) k)) }
+        (AlterWays (last_ways k) router.old (pushes_in reroutes.now)) (HasWaysOf (Some router.old) k)) }
     ensures same { router.new ≡ router.old }
     ensures published { PublishesWaysIn tables.old (Some router.old) tables.new }
 {

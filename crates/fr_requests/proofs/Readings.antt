@@ -67,7 +67,3 @@ pub more_than_value : (text : List ℕ) (j : json.Json) (t : Token) (ts : List T
     → value 127 (tokens text) ≡ Some (j, t ∷ ts) → read text ≡ None
 more_than_value text j t ts is =
     ap (λ found. option_and_then of_json (option_and_then (λ p. json.if_last p.0 p.1) found)) is
-
--- a text that begins with no value
-pub no_value_read : (text : List ℕ) → value 127 (tokens text) ≡ None → read text ≡ None
-no_value_read text is = ap (λ found. option_and_then of_json (option_and_then (λ p. json.if_last p.0 p.1) found)) is

@@ -24,7 +24,7 @@ use Rattle.fr_round.specs.Rule.{KeepsRule, IsTaken, with_taken}
 use Rattle.fr_round.specs.Calls.{RoundSeat, IsSameSeat}
 use Rattle.fr_round.specs.Knowledge.{Knowledge, OpenRound}
 use Rattle.fr_round.specs.Closing.{Closes, IsPartOf, number_and_known, number_and_turns}
-use Rattle.fr_round.proofs.Keeping.{each_weaker}
+use Rattle.fr_round.proofs.StepsKeepTheRule.{each_weaker}
 use Rattle.fr_round.proofs.Entries.{lawful_after}
 use Rattle.fr_round.proofs.Totals.{all_handed_back}
 

@@ -1,7 +1,7 @@
 -- lists of counts, and histories with one entry more
 pub mod Entries
 -- each step of a worker keeps the rule, and tells what it has to
-pub mod Keeping
+pub mod StepsKeepTheRule
 -- the opening seat gives out numbers, and a closing seat takes workers back
 pub mod Seating
 -- how many turns a history has, at most

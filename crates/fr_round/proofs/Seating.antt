@@ -21,7 +21,7 @@ use Rattle.fr_round.specs.Histories.{AreApart}
 use Rattle.fr_round.specs.Rule.{HasList, KeepsRule, ViewFits, IsTaken, opening_view, numbered_next, worker_view}
 use Rattle.fr_round.specs.Rule.{closing_view, past_view, with_received, with_taken, spent_view}
 use Rattle.fr_round.proofs.Entries.{part_same, zeros}
-use Rattle.fr_round.proofs.Keeping.{each_append, each_mapped, each_snoc, each_weaker}
+use Rattle.fr_round.proofs.StepsKeepTheRule.{each_append, each_mapped, each_snoc, each_weaker}
 
 off : false ≡ true → ⊥
 off e = true≢false (sym e)

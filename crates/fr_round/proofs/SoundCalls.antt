@@ -5,7 +5,7 @@ use Rattle.fr_graph.specs.Links.{IsNet}
 use Rattle.fr_core.specs.History.{part, turn_count}
 use Rattle.fr_core.specs.declared.entry.Entry.{Entry}
 use Rattle.fr_core.specs.declared.entry.Reply.{Reply}
-use Rattle.fr_round.specs.declared.turn_call.Caller.{Caller}
+use Rattle.fr_round.specs.declared.turn_call.CallingWorker.{CallingWorker}
 use Rattle.fr_round.specs.declared.view.Setup.{Setup}
 use Rattle.fr_round.specs.declared.view.View.{View}
 use Rattle.fr_round.specs.declared.words.Words.{Words}
@@ -28,10 +28,10 @@ knowledge_holds w s = record {
   below = λ z. omega (arith, s.below z, reached_count w.caller.seat.me.0.setup w.caller.seat.me.0.known s.run z);
 }
 
-abbrev pub with_caller : Inside → Caller → ℕ → Inside
+abbrev pub with_caller : Inside → CallingWorker → ℕ → Inside
 with_caller w p turned = record { caller = p; number = w.number; turned = turned }
 
-module _ (words : Words) (w : Inside) (p : Caller) (x : ℕ) (reply : Reply) (s : IsSoundWorker w)
+module _ (words : Words) (w : Inside) (p : CallingWorker) (x : ℕ) (reply : Reply) (s : IsSoundWorker w)
     (of : w.caller.seat.me.0.setup ≡ setup_of words.round_setup) (made : Makes words w.caller x reply p) where
   turned_more : turn_count (part w.number p.seat.me.0.known) ≡ w.turned + turn_of reply
   turned_more =

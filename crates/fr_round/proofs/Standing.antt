@@ -25,8 +25,8 @@ use Rattle.fr_round.specs.Knowledge.{Knowledge, OpenRound, new_worker, new_worke
 use Rattle.fr_round.specs.Rule.{HasList, IsTaken, ViewFits, closing_view, opening_view}
 use Rattle.fr_round.specs.Steps.{caught_up, exchange_made, look_begun, look_ended, neighbour_loaded, own_loaded}
 use Rattle.fr_round.proofs.Gathering.{some_run}
-use Rattle.fr_round.proofs.Keeping.{allowed, begins_look, catches_up, each_append, each_mapped, each_weaker}
-use Rattle.fr_round.proofs.Keeping.{ends_look_at, exchanges_at, loads_against_at, loads_along_at, loads_own}
+use Rattle.fr_round.proofs.StepsKeepTheRule.{allowed, begins_look, catches_up, each_append, each_mapped, each_weaker}
+use Rattle.fr_round.proofs.StepsKeepTheRule.{ends_look_at, exchanges_at, loads_against_at, loads_along_at, loads_own}
 use Rattle.fr_round.proofs.Seating.{apart_append, enters, first_keeps, hands_on, joins, kept_enter, kept_join}
 use Rattle.fr_round.proofs.Seating.{kept_split, receives, splits}
 

@@ -18,7 +18,7 @@ use Rattle.fr_round.specs.Closing.{IsPartOf, number_and_turns}
 use Rattle.fr_round.specs.Histories.{AreApart, start}
 use Rattle.fr_round.specs.Knowledge.{Knowledge}
 use Rattle.fr_round.proofs.Entries.{part_more, part_same}
-use Rattle.fr_round.proofs.Keeping.{each_mapped}
+use Rattle.fr_round.proofs.StepsKeepTheRule.{each_mapped}
 use Rattle.fr_round.proofs.TurnCounts.{turn_count_cons, turn_of}
 
 each_at : (P : ℕ → Type 0) (xs : List ℕ) (y : ℕ) → Each P xs → Contains xs y → P y

@@ -8,11 +8,11 @@ ghost use Rattle.fr_round.specs.Calls.{AllMeet, IsInCall};
 ghost use Rattle.fr_round.specs.Callers.{IsCaller, Makes};
 
 use crate::rule::{LoadToConfirm, LoadToLook};
-use crate::turn_call::Caller;
+use crate::turn_call::CallingWorker;
 use crate::words::Words;
 use fr_core::Reply;
 
-impl Caller {
+impl CallingWorker {
     /// Loads the own count of node `x` a second time, which decides the call: if it is still `c`, the node was a sink
     /// then.
     fn confirm_own_count(&mut self, words: &Words, x: u32, c: u64) -> Reply

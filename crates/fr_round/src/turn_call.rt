@@ -24,7 +24,7 @@ pub type RoundSeat = Seat<(), View>;
 
 /// The caller of the steps of a call: a worker's seat, and what the worker has seen.
 #[derive(Drop)]
-pub(crate) struct Caller {
+pub(crate) struct CallingWorker {
     pub seat: RoundSeat,
     pub seen: Seen,
 }
@@ -45,7 +45,7 @@ fn load_neighbour_count(words: &Words, seat: &mut RoundSeat, entry: (u16, First)
     }
 }
 
-impl Caller {
+impl CallingWorker {
     /// Whether a neighbour of `x` meets its bound for the count `c` of `x`, from what was seen or by a load. If it does
     /// not, the call is decided.
     fn meets_bound(&mut self, words: &Words, x: u32, c: u64, entry: (u16, First)) -> bool

@@ -13,7 +13,7 @@ ghost use Rattle.fr_round.specs.Closing.{number_and_known};
 use crate::past::Past;
 use crate::rule::{CatchUp, HandOn, Receive};
 use crate::seen_counts::Seen;
-use crate::turn_call::{Caller, RoundSeat};
+use crate::turn_call::{CallingWorker, RoundSeat};
 use crate::words::Words;
 use fr_core::Reply;
 use std::marker::Model;
@@ -22,7 +22,7 @@ use std::marker::Model;
 /// its last call, and counts that the nodes had reached.
 #[derive(Drop)]
 pub struct Worker {
-    caller: Caller,
+    caller: CallingWorker,
     number: u32,
     turned: u64,
 }
@@ -58,7 +58,7 @@ impl Worker {
         ensures { result ≡ new_worker seat.table_id seat.me.0.setup number }
     {
         Worker {
-            caller: Caller { seat, seen },
+            caller: CallingWorker { seat, seen },
             number,
             turned: 0,
         }
@@ -70,7 +70,7 @@ impl Worker {
             × (result.me.0.setup ≡ self.setup) × ((result.me.0.number, result.me.0.known) ≡ number_and_known self) }
     {
         let Worker {
-            caller: Caller { seat, seen: _ },
+            caller: CallingWorker { seat, seen: _ },
             number: _,
             turned: _,
         } = self;

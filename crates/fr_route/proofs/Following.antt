@@ -9,7 +9,7 @@ use Rattle.fr_ways.specs.Changes.{KeepsPushes}
 use Rattle.fr_route.specs.Forwarding.{CanTell, IsReady}
 use Rattle.fr_route.specs.KeptDistances.{KeepsDistances}
 use Rattle.fr_route.specs.Listing.{AsksWays, HasLedOn, HasPlaces, HasSameList, HaveBegun, IsListing, KeepsPlaces}
-use Rattle.fr_route.specs.Listing.{nodes_told, notes_told, ways_in, ways_told}
+use Rattle.fr_route.specs.Listing.{nodes_told, notes_told, noted_in, ways_told}
 use Rattle.fr_route.specs.NodeWays.{HasDistances}
 use Rattle.fr_route.specs.Outcomes.{settled_state}
 use Rattle.fr_route.specs.States.{State, state_with}
@@ -87,7 +87,7 @@ module _ (told roomy : ChangedNodes) (places : KeepsPlaces told roomy) (same : n
 
       whole_pushes : KeepsPushes (ways_told told) (ways_told more)
       whole_pushes =
-          subst (λ (notes : Option WayNotes). KeepsPushes (ways_in notes) (ways_told more)) places.notes pushes
+          subst (λ (notes : Option WayNotes). KeepsPushes (noted_in notes) (ways_told more)) places.notes pushes
 
       -- the notes are begun, or there is no memory for them
       pub ready : (r : Result (Unit {0}) AllocError)

@@ -22,7 +22,7 @@ pub mod Touched
 pub mod Moving
 pub mod Written
 pub mod Renewing
-pub mod Noting
+pub mod ChangedHops
 pub mod ReportRooms  -- the room that a report of changed ways needs
 pub mod WaysTold  -- notes of what a change does to ways
 pub mod SettledHops

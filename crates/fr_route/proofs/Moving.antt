@@ -19,7 +19,7 @@ use Rattle.fr_graph.specs.Counts.{IsKept, links_at}
 use Rattle.fr_graph.proofs.Ordering.{in_order_permutes, into_order, out_of_order}
 use Rattle.fr_crew.specs.Settlements.{HoldsSinks, IsCounted}
 use Rattle.fr_nearest.specs.Distances.{AreDistances, IsRenewed, Measured}
-use Rattle.fr_nearest.specs.Touched.{HadLinks, HasEndsBelow, IsAdded, IsCut}
+use Rattle.fr_nearest.specs.LinkChanges.{HadLinks, HasEndsBelow, IsAdded, IsCut}
 use Rattle.fr_route.specs.NodeWays.{AreOldDistances, HasDistances, HasTurnedEnd}
 use Rattle.fr_route.specs.Ends.{ends_of}
 use Rattle.fr_route.specs.Outcomes.{HoldsMoved, IsStale, cut_off_nodes, movable, settled_state, touched}

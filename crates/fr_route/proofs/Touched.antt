@@ -25,7 +25,7 @@ use Rattle.fr_graph.proofs.Linking.{joined_below, joined_from, link_below}
 use Rattle.fr_graph.proofs.Members.{Contains-cases, Contains-head, Contains-none, Contains-tail}
 use Rattle.fr_graph.proofs.Ordering.{in_order_order}
 use Rattle.fr_core.proofs.SameLinks.{same_from_permutation}
-use Rattle.fr_nearest.specs.Touched.{Adds, AreEnds, Cuts, HasEndsBelow, IsAdded, IsCut}
+use Rattle.fr_nearest.specs.LinkChanges.{Adds, AreEnds, Cuts, HasEndsBelow, IsAdded, IsCut}
 use Rattle.fr_route.specs.Ends.{ends_of}
 
 -- the same links join x with others in both lists, in the same direction

@@ -10,8 +10,8 @@ use Rattle.fr_graph.specs.Links.{HasPath, IsNet, IsPath, end_of}
 use Rattle.fr_graph.specs.declared.edit.Edit.{Edit}
 use Rattle.fr_graph.proofs.Linking.{link_below}
 use Rattle.fr_nearest.specs.Affected.{AreAffected, KeepsWays}
-use Rattle.fr_nearest.specs.Touched.{HadLinks, HasTurned}
-use Rattle.fr_nearest.specs.declared.update.Touched.{Touched}
+use Rattle.fr_nearest.specs.LinkChanges.{HadLinks, HasTurned}
+use Rattle.fr_nearest.specs.declared.update.LinkChanges.{LinkChanges}
 use Rattle.fr_graph.specs.Turns.{AreTurned}
 use Rattle.fr_nearest.specs.Distances.{AreDistances, Measured, no_distance}
 use Rattle.fr_nearest.specs.Ways.{AreWays}
@@ -228,7 +228,7 @@ rises_to nodes up i (suc j) lt low =
     ]
 
 -- the first affected node is the next to note
-pub noting_first : (s next : State) (touched : Touched) (m : Measured) (before after : List (List ℕ)) (notes : WayNotes)
+pub noting_first : (s next : State) (touched : LinkChanges) (m : Measured) (before after : List (List ℕ)) (notes : WayNotes)
     → LeadsOn s next touched.edits.now m notes → AreAllWays s before → AreAllWays next after
     → AreTurned next.counts touched.turned.now
     → AreAffected (net_at next) touched m.before m.table notes.affected.nodes → HasNoPushes notes.changes

@@ -5,7 +5,7 @@ use Rattle.std.specs.declared.boxed.Box.{Box}
 use Rattle.std.specs.declared.vec.Vec.{Vec}
 use Rattle.std.proofs.Common.{ℕ, Option}
 use Rattle.fr_ways.specs.Changes.{KeepsPushes, Noted}
-use Rattle.fr_route.specs.Listing.{AsksWays, HasSameList, notes_told, ways_in, ways_told}
+use Rattle.fr_route.specs.Listing.{AsksWays, HasSameList, notes_told, noted_in, ways_told}
 use Rattle.fr_route.specs.declared.changed_nodes.ChangedNodes.{ChangedNodes}
 use Rattle.fr_route.specs.declared.changed_nodes.ChangedNodes.TheVariants.{InList}
 use Rattle.fr_route.specs.declared.way_notes.WayNotes.{WayNotes}
@@ -16,7 +16,7 @@ pushes_same n = record { shrink = refl; emptied = refl; grow = refl; nodes = ome
 -- with the same notes the caller asks for the same, and has the same pushes
 pub same_pushes : (a b : ChangedNodes) → notes_told b ≡ notes_told a → KeepsPushes (ways_told a) (ways_told b)
 same_pushes a b same =
-    subst (λ (notes : Option WayNotes). KeepsPushes (ways_told a) (ways_in notes)) (sym same)
+    subst (λ (notes : Option WayNotes). KeepsPushes (ways_told a) (noted_in notes)) (sym same)
     (pushes_same (ways_told a))
 
 pub same_asking : (a b : ChangedNodes) → notes_told b ≡ notes_told a → AsksWays a → AsksWays b

@@ -36,12 +36,12 @@ abbrev pub AsksWays : ChangedNodes → Type 0
 AsksWays told = (notes : WayNotes) × (notes_told told ≡ Some notes)
 
 -- the pushes in these notes
-abbrev pub ways_in : Option WayNotes → Noted
-ways_in None = record { shrink = []; emptied = []; grow = []; nodes = 0; ways = 0 }
-ways_in (Some notes) = notes.changes
+abbrev pub noted_in : Option WayNotes → Noted
+noted_in None = record { shrink = []; emptied = []; grow = []; nodes = 0; ways = 0 }
+noted_in (Some notes) = notes.changes
 
 abbrev pub ways_told : ChangedNodes → Noted
-ways_told told = ways_in (notes_told told)
+ways_told told = noted_in (notes_told told)
 
 -- there is a list after exactly if there was one before, and it has no less room
 pub record KeepsPlaces (before after : ChangedNodes) : Type 0 where

@@ -5,7 +5,7 @@ use Rattle.fr_graph.specs.Links.{Points}
 use Rattle.fr_graph.specs.Network.{Network}
 use Rattle.fr_graph.specs.declared.edit.Edit.{Edit}
 use Rattle.fr_nearest.specs.Distances.{AreDistances, IsDistance, Measured}
-use Rattle.fr_nearest.specs.Touched.{HasEndsBelow, IsAdded, IsCut}
+use Rattle.fr_nearest.specs.LinkChanges.{HasEndsBelow, IsAdded, IsCut}
 use Rattle.fr_nearest.specs.Ways.{AreWays, IsNearestWalk}
 use Rattle.fr_ways.specs.Ways.{ways}
 use Rattle.fr_route.specs.States.{State, IsCutOff}

@@ -5,7 +5,7 @@ use Rattle.fr_graph.specs.Limits.{most_edits}
 use Rattle.fr_graph.specs.Links.{IsNet, Points}
 use Rattle.fr_graph.specs.declared.edit.Edit.{Edit}
 use Rattle.fr_nearest.specs.Distances.{AreChanged, AreDistances, Measured}
-use Rattle.fr_nearest.specs.Touched.{HadLinks, HasEndsBelow, IsAdded, IsCut}
+use Rattle.fr_nearest.specs.LinkChanges.{HadLinks, HasEndsBelow, IsAdded, IsCut}
 use Rattle.fr_nearest.specs.Ways.{AreWays}
 use Rattle.fr_ways.specs.Changes.{IsNotedTo}
 use Rattle.fr_ways.specs.Ways.{ways}

@@ -82,7 +82,6 @@ impl ForwardingState {
         ensures unkept { IfOk result (λ made. ¬ IsTrue made.distances.are_kept) }
         ensures room { IfOk result (λ made. made.room ≡ round.now.net.now.nodes) }
     {
-        round.net.network_law();
         Ok(ForwardingState {
             hops: hop_table(alloc, round)?,
             distances: KeptDistances::unmeasured(alloc, round.net)?,

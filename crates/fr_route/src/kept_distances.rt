@@ -8,7 +8,7 @@ ghost use Rattle.fr_route.specs.States.{state_with};
 
 use crate::outcome::Outcome;
 use fr_graph::{Edit, Net};
-use fr_nearest::{Distances, Touched};
+use fr_nearest::{Distances, LinkChanges};
 use fr_ways::WayTable;
 use std::alloc::{AllocError, Global};
 
@@ -80,7 +80,7 @@ impl KeptDistances {
         ensures renewed { IsTrue self.old.are_kept → IsRenewed net.now outcome.now.dest self.old.table self.new.table }
     {
         if self.are_kept {
-            let touched = Touched {
+            let touched = LinkChanges {
                 edits,
                 turned: outcome.turns.nodes(),
             };
@@ -99,7 +99,6 @@ pub(crate) fn table_of_ways(
     ensures { IfOk result (λ table. (counts : List ℕ)
         → AreAllWays (state_with net.now distances.now.dest counts) table) }
 {
-    net.network_law();
     let nodes = net.nodes();
     let mut table = WayTable::with_capacity(alloc, nodes as usize, net.link_count())?;
     let ways = distances.all_ways(alloc, net)?;

@@ -22,7 +22,7 @@ use crate::listed_phases::from_plan;
 use crate::router::{ROUTE_ROOM, Router};
 use crate::texts::{
     begin, counts_line_into, hops_line, links_line_into, nearest_line, no_nearest_line,
-    no_walk_line, node_ways_line, phases_line, push_number, ways_line,
+    no_walk_line, node_ways_line, phases_line, push_text_and_number, ways_line,
 };
 use fr_requests::{NodeQuestion, Question};
 use fr_tables::Hop;
@@ -120,12 +120,12 @@ fn route_line(line: &mut String, router: &Router, x: u32) -> Result<(), AllocErr
     }
     begin(line, "walk", ROUTE_ROOM)?;
     let mut buffer = Buffer::new();
-    push_number(line, " ", u64::from(x), &mut buffer)?;
+    push_text_and_number(line, " ", u64::from(x), &mut buffer)?;
     let mut at = x;
     // No route has more nodes than the network, so the walk ends.
     let mut count = 1_u32;
     'hops: while let Hop::To(next) = router.next_hop(at) {
-        push_number(line, " ", u64::from(next), &mut buffer)?;
+        push_text_and_number(line, " ", u64::from(next), &mut buffer)?;
         at = next;
         count += 1;
     }

@@ -4,8 +4,7 @@ ghost use Rattle.std.specs.Prelude.{◌≡◌, ◌≢◌, ◌<◌, ◌≤◌, []
 ghost use Rattle.std.specs.Prelude.{Some, IfOk, IfErr, IfSome, MatchOption, OnErr, OnOk};
 ghost use Rattle.std.specs.Option.{option_copied};
 ghost use Rattle.fr_graph.specs.Limits.{most_edits};
-ghost use Rattle.fr_crew.specs.Settlements.{CanBegin, IsCounted};
-ghost use Rattle.fr_route.specs.Ways.{Settles, NeverStarts};
+ghost use Rattle.fr_crew.specs.Settlements.{IsCounted};
 ghost use Rattle.fr_route.specs.declared.fault.RouteFault.TheVariants.{Start, Memory};
 ghost use Rattle.fr_route.specs.Listing.{nodes_told};
 ghost use Rattle.fr_route.specs.NodeWays.{AreAllWays, AreNodeWays, AreWaysBelow, HasDistance, IsNearest};
@@ -32,10 +31,10 @@ use crate::outcome::{
 };
 use crate::reroutes::Reroutes;
 use crate::revision::Revision;
-use crate::settling::{Settler, counts_without_crew};
+use crate::settling::{OnCallingThread, Settle, Settler};
 use crate::spare_turns::SpareTurns;
 use crate::turn_candidates::TurnCandidates;
-use fr_crew::{Crew, CrewFault, Gate, Plan, settled_counts};
+use fr_crew::{Crew, Gate, Plan};
 use fr_graph::{Edit, MAX_EDITS, Net, NetFault, Turns};
 use fr_nearest::Distances;
 use fr_tables::{Hop, TableFault, first_outside, known_push_order};
@@ -119,12 +118,11 @@ fn ways_before(alloc: Global, before: Option<&Router>) -> Result<WayTable, Alloc
     }
 }
 
-impl<'a, F: Fn(&Net, u32, Option<&[u32]>, Turns) -> Result<Turns, CrewFault>> Settler<'a, F> {
+impl<'a, S: Settle> Settler<'a, S> {
     /// Settles a network.
     pub(crate) fn open(&self, net: Net, dest: u32) -> Result<Router, RouteFault>
-        requires { Settles F.pre F.post self.now.settle.now }
         ensures opened { IfOk result (λ router. (dest < net.nodes) × IsRound net.nodes dest net.links router) }
-        ensures fault { IfErr result (IsRoundFault (NeverStarts F.post self.now.settle.now) net dest) }
+        ensures fault { IfErr result (IsRoundFault (S.never_starts self.now.settle.now) net dest) }
     {
         let turns = self.first_counts(&net, dest)?;
         Router::settled(self.alloc, net, dest, turns)
@@ -138,8 +136,7 @@ impl<'a, F: Fn(&Net, u32, Option<&[u32]>, Turns) -> Result<Turns, CrewFault>> Se
         change: &Change,
         told: &mut ChangedNodes,
     ) -> Result<Report, NotMade>
-        requires { Settles F.pre F.post self.now.settle.now }
-        ensures { IsTried (NeverStarts F.post self.now.settle.now) (change_of router.old change.now)
+        ensures { IsTried (S.never_starts self.now.settle.now) (change_of router.old change.now)
             router.old told.old result router.new told.new }
     {
         let dest = router.dest();
@@ -169,8 +166,7 @@ impl<'a, F: Fn(&Net, u32, Option<&[u32]>, Turns) -> Result<Turns, CrewFault>> Se
         edit: Edit,
         told: &mut ChangedNodes,
     ) -> Result<Report, NotMade>
-        requires { Settles F.pre F.post self.now.settle.now }
-        ensures { IsTried (NeverStarts F.post self.now.settle.now) (edit_of router.old edit router.old.dest)
+        ensures { IsTried (S.never_starts self.now.settle.now) (edit_of router.old edit router.old.dest)
             router.old told.old result router.new told.new }
     {
         let dest = router.dest();
@@ -185,9 +181,8 @@ impl<'a, F: Fn(&Net, u32, Option<&[u32]>, Turns) -> Result<Turns, CrewFault>> Se
         revision: &Revision<'_>,
         told: &mut ChangedNodes,
     ) -> Result<Report, NotMade>
-        requires settles { Settles F.pre F.post self.now.settle.now }
         requires node { revision.now.dest < router.old.nodes }
-        ensures { IsTried (NeverStarts F.post self.now.settle.now) (revision_of router.old revision.now)
+        ensures { IsTried (S.never_starts self.now.settle.now) (revision_of router.old revision.now)
             router.old told.old result router.new told.new }
     {
         let movable = router.turn_candidates(self.alloc, revision)?;
@@ -243,9 +238,7 @@ impl Router {
         };
         Settler::new(
             alloc,
-            &|net, dest, from, turns|
-                requires { CanBegin net.now dest from turns }
-            { settled_counts(&crew, net, dest, from, turns) },
+            &crew,
         )
         .open(net, dest)
     }
@@ -257,7 +250,7 @@ impl Router {
         ensures fault { IfErr result (IsOpenFault net.nodes dest) }
         ensures no_start { IfErr result (λ fault. fault ≢ Start) }
     {
-        Settler::new(alloc, &counts_without_crew).open(net, dest)
+        Settler::new(alloc, &OnCallingThread).open(net, dest)
     }
 
     /// The router of a network with these settled counts.
@@ -304,7 +297,7 @@ impl Router {
     ///
     /// The cost is that of [`Net::edit_if`], and O((e + k + 1) d) for e edits and k nodes with links that the last
     /// round cut off. It is O(n) more if k is not 0, at the first change, and after a failed call. If nodes turn, there
-    /// is also the cost of [`settled_counts`] and [`Net::turn`], and one step for each link of these nodes and of the
+    /// is also the cost of [`settled_counts`](fr_crew::settled_counts) and [`Net::turn`], and one step for each link of these nodes and of the
     /// neighbours that sent on to them.
     pub fn change<R: Threads + Wait + Sync, G: Gate + Sync>(
         &mut self,
@@ -333,15 +326,14 @@ impl Router {
         };
         without_edit_place(Settler::new(
             alloc,
-            &|net, dest, from, turns|
-                requires { CanBegin net.now dest from turns }
-            { settled_counts(&crew, net, dest, from, turns) },
+            &crew,
         )
         .change(self, &change, &mut ChangedNodes::Unlisted))
     }
 
     /// Changes the network as [`change`](Self::change) does, on the calling thread. It starts no thread, does not wait,
-    /// and never fails with `Start`. The cost is that of `change`, with [`settled_counts_alone`] if nodes turn.
+    /// and never fails with `Start`. The cost is that of `change`, with [`settled_counts_alone`](fr_crew::settled_counts_alone) if nodes
+    /// turn.
     pub fn change_alone(&mut self, alloc: Global, change: Change) -> Result<Report, RouteFault>
         ensures changed { IfOk result (λ _. IsChanged self.old change self.new) }
         ensures report { IfOk result (λ report. IsReport self.new report.turned report.cut) }
@@ -349,7 +341,7 @@ impl Router {
         ensures unchanged { OnErr result (self.new ≡ self.old) }
         ensures no_start { IfErr result (λ fault. fault ≢ Start) }
     {
-        without_edit_place(Settler::new(alloc, &counts_without_crew).change(
+        without_edit_place(Settler::new(alloc, &OnCallingThread).change(
             self,
             &change,
             &mut ChangedNodes::Unlisted,
@@ -381,7 +373,7 @@ impl Router {
         ensures no_start { IfErr result (λ undone. undone.fault ≢ Start) }
     {
         let mut told = ChangedNodes::from_list(rerouted, alloc);
-        let report = Settler::new(alloc, &counts_without_crew).change(self, &change, &mut told);
+        let report = Settler::new(alloc, &OnCallingThread).change(self, &change, &mut told);
         *rerouted = told.into_list(alloc);
         report
     }
@@ -395,7 +387,7 @@ impl Router {
     /// The first call measures the distances, as [`ways`](Router::ways) does, and takes the memory for all nodes and links.
     /// A caller that passes the same reroutes each time pays for this once. The cost is that of `change_telling_alone`, and
     /// O(d log d) for each node whose list may have changed, which has d links.
-    pub fn change_telling_ways_alone(
+    pub fn change_with_ways_alone(
         &mut self,
         alloc: Global,
         change: Change,
@@ -410,7 +402,7 @@ impl Router {
         ensures unchanged { OnErr result (self.new ≡ self.old) }
         ensures no_start { IfErr result (λ undone. undone.fault ≢ Start) }
     {
-        Settler::new(alloc, &counts_without_crew).change(self, &change, &mut reroutes.told)
+        Settler::new(alloc, &OnCallingThread).change(self, &change, &mut reroutes.told)
     }
 
     /// The nodes that can be sinks after these edits and the move of the destination, and whose hops can be wrong even
@@ -646,7 +638,7 @@ impl Router {
     ///
     /// The slice must have one place for each node of the network. It does not allocate. The cost is that of
     /// [`ways`](Router::ways).
-    pub fn ways_in(&mut self, x: u32, space: &mut [u32]) -> usize
+    pub fn write_ways(&mut self, x: u32, space: &mut [u32]) -> usize
         requires node { x < self.old.nodes }
         requires space { self.old.nodes ≤ length space.old }
         ensures same { self.new ≡ self.old }
@@ -657,7 +649,7 @@ impl Router {
         self.forwarding
             .distances
             .keep_from_now(&self.net, self.dest);
-        self.forwarding.distances.table.ways_in(&self.net, x, space)
+        self.forwarding.distances.table.write_ways(&self.net, x, space)
     }
 
     /// The distance of node `x`, which must be in the network: the fewest links that lead from it down to the

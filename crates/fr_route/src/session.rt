@@ -7,7 +7,6 @@ ghost use Rattle.std.specs.declared.alloc.Global.{Global};
 ghost use Rattle.std.specs.declared.vec.Vec.{Vec};
 ghost use Rattle.fr_requests.specs.Requests.{ask, plain, reading};
 ghost use Rattle.fr_requests.specs.declared.requests.LineFault.TheVariants.{Memory as NoMemory};
-ghost use Rattle.fr_crew.specs.Settlements.{CanBegin};
 ghost use Rattle.fr_route.specs.Blank.{is_blank as is_blank_line};
 ghost use Rattle.fr_route.specs.Answers.{IsAnswer, IsLineAnswer, MayStartFor, MayStartForLine};
 ghost use Rattle.fr_route.specs.Forms.{IsAnswerIn, IsLineRefused};
@@ -19,9 +18,9 @@ use crate::changed_nodes::ChangedNodes;
 use crate::fault::AnswerFault;
 use crate::form::{Answer, Draft, Form, Line};
 use crate::router::Router;
-use crate::settling::{Settler, counts_without_crew};
+use crate::settling::{OnCallingThread, Settler};
 use crate::space::AnswerSpace;
-use fr_crew::{Crew, Gate, Plan, settled_counts};
+use fr_crew::{Crew, Gate, Plan};
 use fr_graph::Net;
 use fr_requests::{LineFault, LineReader, Question, Request};
 use std::alloc::Global;
@@ -171,7 +170,7 @@ impl Session {
             (λ answer. IfSome answer (λ text. (self.new ≡ self.old) ⊎ (length (string_bytes text) ≤ longest_report))) }
         ensures no_start { IfErr result (λ fault. fault ≢ Start) }
     {
-        Settler::new(alloc, &counts_without_crew).text_for_line(
+        Settler::new(alloc, &OnCallingThread).text_for_line(
             self,
             line,
             &mut ChangedNodes::Unlisted,
@@ -202,7 +201,7 @@ impl Session {
         ensures no_start { IfErr result (λ fault. fault ≢ Start) }
     {
         let mut told = ChangedNodes::from_list(rerouted, alloc);
-        let answer = Settler::new(alloc, &counts_without_crew).text_for_line(self, line, &mut told);
+        let answer = Settler::new(alloc, &OnCallingThread).text_for_line(self, line, &mut told);
         *rerouted = told.into_list(alloc);
         answer
     }
@@ -232,9 +231,7 @@ impl Session {
         };
         Settler::new(
             alloc,
-            &|net, dest, from, turns|
-                requires { CanBegin net.now dest from turns }
-            { settled_counts(&crew, net, dest, from, turns) },
+            &crew,
         )
         .text_for_request(self, request, &mut ChangedNodes::Unlisted)
     }
@@ -258,7 +255,7 @@ impl Session {
         ensures no_start { IfErr result (λ fault. fault ≢ Start) }
     {
         let mut told = ChangedNodes::from_list(rerouted, alloc);
-        let answer = Settler::new(alloc, &counts_without_crew).text_for_request(
+        let answer = Settler::new(alloc, &OnCallingThread).text_for_request(
             self, request, &mut told,
         );
         *rerouted = told.into_list(alloc);
@@ -270,7 +267,7 @@ impl Session {
     ///
     /// The session and the faults are as for [`Session::answer_line`]. So is the cost; an answer in JSON to a change
     /// also takes space of O(n) and puts the rerouted nodes in push order. A report with ways takes space of O(n + m).
-    /// Its cost is that of [`Router::change_telling_ways_alone`], and after a new network that of
+    /// Its cost is that of [`Router::change_with_ways_alone`], and after a new network that of
     /// [`Router::all_ways`] for the network and for the one before it.
     pub fn answer_line_in<R: Threads + Wait + Sync, G: Gate + Sync>(
         &mut self,
@@ -299,9 +296,7 @@ impl Session {
     {
         Settler::new(
             crew.alloc,
-            &|net, dest, from, turns|
-                requires { CanBegin net.now dest from turns }
-            { settled_counts(crew, net, dest, from, turns) },
+            crew,
         )
         .reply_line_in(self, form, line, space)
     }
@@ -327,7 +322,7 @@ impl Session {
         ensures unchanged { OnErr result ((is_blank_line line.entry.bytes.now ≡ false) × (self.new ≡ self.old)) }
         ensures no_start { IfErr result (λ fault. fault ≢ Start) }
     {
-        Settler::new(alloc, &counts_without_crew).reply_line_in(self, form, line, space)
+        Settler::new(alloc, &OnCallingThread).reply_line_in(self, form, line, space)
     }
 
     /// Answers a question, as [`Session::answer`] does. This changes nothing. Fails only with `Memory`. O(b) for b

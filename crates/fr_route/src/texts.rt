@@ -40,7 +40,7 @@ pub(crate) fn begin(line: &mut String, word: &str, numbers: usize) -> Result<(),
 
 /// Appends a text and a number. It is inlined, so that the text is copied as a constant.
 #[inline(always)]
-pub(crate) fn push_number(
+pub(crate) fn push_text_and_number(
     line: &mut String,
     before: &str,
     number: u64,
@@ -90,8 +90,8 @@ fn push_links(line: &mut String, links: Links<'_>) -> Result<(), AllocError>
 {
     let mut buffer = Buffer::new();
     for (tail, head) in links {
-        push_number(line, " ", u64::from(tail), &mut buffer)?;
-        push_number(line, ">", u64::from(head), &mut buffer)?;
+        push_text_and_number(line, " ", u64::from(tail), &mut buffer)?;
+        push_text_and_number(line, ">", u64::from(head), &mut buffer)?;
     }
     Ok(())
 }
@@ -113,7 +113,7 @@ pub(crate) fn counts_line_into(line: &mut String, counts: &[u64]) -> Result<(), 
     begin(line, "counts", counts.len())?;
     let mut buffer = Buffer::new();
     for count in counts {
-        push_number(line, " ", *count, &mut buffer)?;
+        push_text_and_number(line, " ", *count, &mut buffer)?;
     }
     Ok(())
 }
@@ -124,7 +124,7 @@ fn push_hop(line: &mut String, hop: Hop, buffer: &mut Buffer) -> Result<(), Allo
 {
     match hop {
         Hop::Here => line.push_str(" here"),
-        Hop::To(node) => push_number(line, " ", u64::from(node), buffer),
+        Hop::To(node) => push_text_and_number(line, " ", u64::from(node), buffer),
         Hop::CutOff => line.push_str(" cut"),
     }
 }
@@ -147,7 +147,7 @@ fn push_new_hop(line: &mut String, hop: Hop, buffer: &mut Buffer) -> Result<(), 
 {
     match hop {
         Hop::Here => line.push_str(">here"),
-        Hop::To(next) => push_number(line, ">", u64::from(next), buffer),
+        Hop::To(next) => push_text_and_number(line, ">", u64::from(next), buffer),
         Hop::CutOff => line.push_str(">cut"),
     }
 }
@@ -159,7 +159,7 @@ pub(crate) fn pushes_line(line: &mut String, nodes: &[u32], hops: &[Hop]) -> Res
     begin(line, "pushes", nodes.len().saturating_mul(2))?;
     let mut buffer = Buffer::new();
     for node in nodes {
-        push_number(line, " ", u64::from(*node), &mut buffer)?;
+        push_text_and_number(line, " ", u64::from(*node), &mut buffer)?;
         push_new_hop(line, hop_at(hops, *node), &mut buffer)?;
     }
     Ok(())
@@ -170,7 +170,7 @@ pub(crate) fn no_walk_line(line: &mut String, node: u32) -> Result<(), AllocErro
     ensures { OnOk result (string_bytes line.new ≡ no_walk_text node) }
 {
     begin(line, "walk", 1)?;
-    push_number(line, " ", u64::from(node), &mut Buffer::new())?;
+    push_text_and_number(line, " ", u64::from(node), &mut Buffer::new())?;
     line.push_str(" cut")
 }
 
@@ -241,7 +241,7 @@ fn push_lists(line: &mut String, pushes: &Pushes, buffer: &mut Buffer) -> Result
     ensures { OnOk result (string_bytes line.new ≡ string_bytes line.old ++ spaced_lists (pairs pushes.now)) }
 {
     for at in 0..pushes.nodes.len() {
-        push_number(line, " ", u64::from(pushes.nodes[at]), buffer)?;
+        push_text_and_number(line, " ", u64::from(pushes.nodes[at]), buffer)?;
         push_list(line, pushes.lists.row(at as u32), buffer)?;
     }
     Ok(())
@@ -268,7 +268,7 @@ pub(crate) fn nearest_line(line: &mut String, nodes: &[u32]) -> Result<(), Alloc
     begin(line, "nearest", nodes.len())?;
     let mut buffer = Buffer::new();
     for node in nodes {
-        push_number(line, " ", u64::from(*node), &mut buffer)?;
+        push_text_and_number(line, " ", u64::from(*node), &mut buffer)?;
     }
     Ok(())
 }
@@ -279,7 +279,7 @@ pub(crate) fn no_nearest_line(line: &mut String, node: u32) -> Result<(), AllocE
     ensures { OnOk result (string_bytes line.new ≡ no_nearest_text node) }
 {
     begin(line, "nearest", 1)?;
-    push_number(line, " ", u64::from(node), &mut Buffer::new())?;
+    push_text_and_number(line, " ", u64::from(node), &mut Buffer::new())?;
     line.push_str(" cut")
 }
 
@@ -291,8 +291,8 @@ pub(crate) fn push_report(line: &mut String, report: Report) -> Result<(), Alloc
 {
     let mut buffer = Buffer::new();
     line.push_str("turned")?;
-    push_number(line, " ", report.turned, &mut buffer)?;
-    push_number(line, " cut ", report.cut, &mut buffer)
+    push_text_and_number(line, " ", report.turned, &mut buffer)?;
+    push_text_and_number(line, " cut ", report.cut, &mut buffer)
 }
 
 /// The answer to a line that is refused.

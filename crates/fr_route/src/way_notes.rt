@@ -11,7 +11,7 @@ ghost use Rattle.fr_route.specs.WayPushes.{AreWayChanges};
 
 use crate::outcome::push_ends;
 use fr_graph::{Edit, Net, Turns};
-use fr_nearest::{Affected, Distances, Touched};
+use fr_nearest::{Affected, Distances, LinkChanges};
 use fr_ways::{WayChanges, WayTable};
 use std::alloc::{AllocError, Global};
 
@@ -78,7 +78,7 @@ fn list_ways(
     table.clear();
     for x in nodes {
         let count = if *x < net.nodes() {
-            distances.ways_in(net, *x, space)
+            distances.write_ways(net, *x, space)
         } else {
             0
         };
@@ -126,7 +126,6 @@ impl WayNotes {
         ensures begun { OnOk result (IsBegun net.now.nodes net.now.links distances.now.dest edits.now self.new) }
         ensures same { KeepsPushes self.old.changes self.new.changes }
     {
-        net.network_law();
         let nodes = net.nodes() as usize;
         lengthen_list(&mut self.before, nodes)?;
         lengthen_list(&mut self.after, nodes)?;
@@ -154,7 +153,7 @@ impl WayNotes {
             self.new.changes.grow }
     {
         net.network_law();
-        let touched = Touched {
+        let touched = LinkChanges {
             edits,
             turned: turns.nodes(),
         };
@@ -179,12 +178,12 @@ impl WayNotes {
         ensures same { HasSameMemory self.old self.new }
         ensures affected { self.new.affected ≡ self.old.affected }
     {
-        let count = distances.ways_in(net, x, &mut self.after);
+        let count = distances.write_ways(net, x, &mut self.after);
         let now = &self.after[..count];
         match self.ends.binary_search(&x) {
             Ok(place) => self.changes.note(x, self.end_ways.row(place as u32), now),
             Err(_) => {
-                let had = distances.ways_before_in(net, counts, x, &mut self.before);
+                let had = distances.write_ways_before(net, counts, x, &mut self.before);
                 self.changes.note(x, &self.before[..had], now);
             }
         }

@@ -9,25 +9,24 @@ use std::marker::Model;
 /// All pushes that the publisher, or a reader, knew at one moment. One thread gives it to another, whose reader learns
 /// them by [`Reader::learn`](crate::Reader::learn). It has no bytes.
 #[derive(Drop)]
-pub struct Past {
-    seat: Seat<(), View>,
+pub struct Past<T> {
+    seat: Seat<(), View<T>>,
 }
 
-impl Model for Past {
+impl<T> Model for Past<T> {
+    ghost use Rattle.std.specs.Prelude.{◌≡◌, []};
     ghost use Rattle.fr_shared.specs.Knowledge.{KnownPast};
 
-    ghost Value = { KnownPast };
+    ghost Value = { KnownPast T };
 
-    ghost use Rattle.fr_shared.specs.PastInside.{known_past, IsSoundPast};
+    ghost view = { λ p. record { table = p.seat.table_id; known = p.seat.me.0.known } };
 
-    ghost view = { known_past };
-
-    ghost invariant = { IsSoundPast };
+    ghost invariant = { λ p. p.seat.me.1 ≡ [] };
 }
 
-impl Past {
+impl<T> Past<T> {
     /// What this seat knows.
-    pub(crate) fn new(seat: Seat<(), View>) -> Past
+    pub(crate) fn new(seat: Seat<(), View<T>>) -> Past<T>
         requires { seat.me.1 ≡ [] }
         ensures { result ≡ record { table = seat.table_id; known = seat.me.0.known } }
     {
@@ -35,7 +34,7 @@ impl Past {
     }
 
     /// Its seat.
-    pub(crate) fn into_seat(self) -> Seat<(), View>
+    pub(crate) fn into_seat(self) -> Seat<(), View<T>>
         ensures { (result.table_id ≡ self.table) × (result.me.1 ≡ []) × (result.me.0.known ≡ self.known) }
     {
         self.seat

@@ -20,7 +20,7 @@ pub fn push_law()
 /// The pushed nodes of a push order are closed downstream at each moment. So they are even if the nodes of one group
 /// are pushed in any order, and even if routers are slow to confirm a push. The last push makes the new table. Two
 /// tables have exactly one push order.
-pub fn order_law()
+pub fn push_order_law()
     ensures beginnings { BeginningIsClosed }
     ensures groups { GroupsAreClosed }
     ensures between { AnyBetweenIsClosed }

@@ -4,7 +4,6 @@ pub mod Pushes
 pub mod Phases
 pub mod Faults
 pub mod Laws
-pub mod Searches
 pub mod Plans
 pub mod Changes
 pub mod PushLists

@@ -1,6 +1,8 @@
 -- Tables of ways: each node has a list of nodes to which it may send on, its ways. The destination, and a node that is
 -- cut off, have none. This project's own; next hops are those of RFC 6976.
-use Rattle.std.specs.Prelude.{◌≡◌, ℕ, ◌<◌, ◌≤◌, List, [], Contains, length, slice_get, slice_index, slice_index_or, Some}
+use Rattle.std.specs.Prelude.{◌≡◌, ℕ, ◌<◌, ◌≤◌, List, [], Contains, Some, length, map, slice_get, slice_index}
+use Rattle.std.specs.Prelude.{slice_index_or}
+use Rattle.fr_search.specs.Heads.{HeadRows}
 use Rattle.fr_tables.specs.Walks.{IsCycle, IsCycleFree, IsDownstream, IsWalk, end_of}
 
 -- the ways of node x. A node past the end of the table has none
@@ -10,6 +12,10 @@ ways table x = slice_index_or table x []
 -- x may send on to y
 abbrev pub Sends : List (List ℕ) → ℕ → ℕ → Type 0
 Sends table x y = Contains (ways table x) y
+
+-- the table as rows of heads: each way leads to a node
+abbrev pub rows_of : List (List ℕ) → HeadRows
+rows_of table = record { size = length table; heads = λ x. map Some (ways table x) }
 
 -- each of these nodes may send on to the next, and the last to the first
 abbrev pub HasCycle : List (List ℕ) → List ℕ → Type 0

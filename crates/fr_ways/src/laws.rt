@@ -39,7 +39,7 @@ pub fn push_law()
 
 /// The pushed nodes of a push order are closed downstream at each moment. So they are even if the nodes of one wave
 /// are pushed in any order. The last push makes the new table. Two tables have exactly one push order.
-pub fn order_law()
+pub fn wave_law()
     ensures beginnings { BeginningIsClosed }
     ensures waves { WavesAreClosed }
     ensures mixed { NextMayBeMixed }

@@ -87,8 +87,8 @@ fn push_pair(story: &mut String, word: &str, u: u32, v: u32) -> Result<(), Alloc
     ensures { OnOk result (string_bytes story.new ≡ string_bytes story.old ++ pair_text word.now u v) }
 {
     story.push_str(word)?;
-    push_number(story, u)?;
-    push_number(story, v)
+    push_space_and_number(story, u)?;
+    push_space_and_number(story, v)
 }
 
 /// Appends a word and a number.
@@ -97,11 +97,11 @@ fn push_single(story: &mut String, word: &str, number: u32) -> Result<(), AllocE
         (string_bytes story.new ≡ string_bytes story.old ++ (word.now ++ (codes " " ++ decimal number))) }
 {
     story.push_str(word)?;
-    push_number(story, number)
+    push_space_and_number(story, number)
 }
 
 /// Appends a space and a number.
-fn push_number(story: &mut String, number: u32) -> Result<(), AllocError>
+fn push_space_and_number(story: &mut String, number: u32) -> Result<(), AllocError>
     ensures { OnOk result (string_bytes story.new ≡ string_bytes story.old ++ (codes " " ++ decimal number)) }
 {
     write!(story, " {number}")

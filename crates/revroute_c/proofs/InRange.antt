@@ -9,8 +9,8 @@ use Rattle.std.proofs.lemmas.List.Folds.{find-append}
 use Rattle.std.proofs.lemmas.List.{length-map, length-replicate}
 use Rattle.std.proofs.lemmas.List.Elements.{All-append, All-cons, All-get_or, All-nil, All-replicate}
 use Rattle.std.proofs.lemmas.Option.{get_or_from_slice_get, none-some, slice_get_within}
-use Rattle.fr_shared.specs.Histories.{padded}
-use Rattle.fr_shared.proofs.Padding.{padded_length}
+use Rattle.fr_shared.specs.HopTables.{padded}
+use Rattle.fr_shared.proofs.HopPadding.{padded_length}
 use Rattle.fr_tables.specs.Faults.{AreTables}
 use Rattle.fr_tables.specs.Tables.{IsInRange, IsFirstOutside}
 use Rattle.fr_tables.specs.declared.hop.Hop.{Hop}

@@ -10,8 +10,8 @@ use denote.RawPtr.{Ptr, ptr_val}
 use denote.Steps.{nothing}
 use denote.Struct.Struct.{within}
 use denote.Struct.Owning.{shape}
-use Rattle.fr_shared_ways.specs.Knowledge.{Knowledge}
-use Rattle.fr_shared_ways.specs.contracts.reader.Reader.{the_row as S}
+use Rattle.fr_shared.specs.WayTables.{WayKnowledge}
+use Rattle.revroute_c.specs.ReaderRows.{way_reader as S}
 use Rattle.revroute_c.proofs.Owned.{word}
 use Rattle.revroute_c.specs.Owning.{owned_at}
 use Rattle.revroute_c.specs.WayReaders.{no_way_reader}
@@ -19,7 +19,7 @@ use Rattle.revroute_c.specs.declared.way_reader_handle.WayReaderHandle.{WayReade
 use Rattle.revroute_c.specs.contracts.way_reader_handle.WayReaderHandle as handle
 
 -- the handle with this pointer and this reader
-abbrev pub handle_of : Ptr → Knowledge → WayReaderHandle
+abbrev pub handle_of : Ptr → WayKnowledge → WayReaderHandle
 handle_of p k = record { at = p; reading = k }
 
 module _ {M : Type 1} {𝓤 : Ura M} {𝓛 : Logic 𝓤} {K : Type 0} {Γ : List (Item 𝓤)} {G : Goal 𝓤 𝓛.H} where
@@ -31,7 +31,7 @@ module _ {M : Type 1} {𝓤 : Ura M} {𝓛 : Logic 𝓤} {K : Type 0} {Γ : List
       (λ ev. fsplit t $ feq_l t (λ ep. drop t $ k (subst (λ (ps : List Val). vs ≡ vstruct (of_list (ps ++ []))
       ∷ []) ep ev))))
 
-  pub handle_in : K → (p : Ptr) (k : Knowledge)
+  pub handle_in : K → (p : Ptr) (k : WayKnowledge)
       → Step K 𝓛 (‵ (handle.the_row.own_val (handle_of p k) (word p ∷ [])) ∷ Γ) G (‵ (owned_at S no_way_reader p k)
       ∷ Γ) G
   handle_in t p s = step (λ k. nothing t $ feq_i t (List Val) (ptr_val p ∷ []) (ptr_val p ∷ []) refl $ fjoin t $ feq_i t

@@ -2,7 +2,7 @@
 -- questions. This project's own.
 use Rattle.std.specs.Prelude.{◌≡◌, ◌≢◌, ℕ, ◌<◌, ◌≤◌, ◌⊎◌, ◌++◌, List, [], ◌∷◌, length, map, max, find, Some, None}
 use Rattle.fr_graph.specs.Limits.{most_nodes}
-use Rattle.fr_shared.specs.Histories.{padded}
+use Rattle.fr_shared.specs.HopTables.{padded}
 use Rattle.fr_tables.specs.Faults.{IsLowestLoop, IsOrdered}
 use Rattle.fr_tables.specs.declared.hop.Hop.{Hop}
 use Rattle.revroute_c.specs.Replies.{IsGiven, IsLength, IsWritten, Outcome}

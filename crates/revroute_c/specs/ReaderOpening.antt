@@ -1,7 +1,7 @@
 -- Opening readers of a session. This project's own.
 use Rattle.std.specs.Prelude.{◌≡◌, Some, IfSome}
-use Rattle.fr_shared.specs.Knowledge.{Knowledge}
-use Rattle.fr_shared_ways.specs.Knowledge.{Knowledge as WayKnowledge}
+use Rattle.fr_shared.specs.HopTables.{HopKnowledge}
+use Rattle.fr_shared.specs.WayTables.{WayKnowledge}
 use Rattle.fr_readers.specs.Published.{HasHopsOf, HasWaysOf}
 use Rattle.revroute_c.specs.SessionStates.{Held}
 
@@ -17,7 +17,7 @@ pub record OpensTable (old new : Held) : Type 0 where
   pub has : IfSome new.table (HasHopsOf new.session)
 
 -- the reader reads the session state's table, knows all pushes to it, and reads the hops of the session
-pub record ReadsTableOf (state : Held) (reading : Knowledge) : Type 0 where
+pub record ReadsTableOf (state : Held) (reading : HopKnowledge) : Type 0 where
   pub table : state.table ≡ Some reading
   pub hops : HasHopsOf state.session reading
 

@@ -1,8 +1,8 @@
 -- The value of a session's handle in contracts. This project's own.
 use Rattle.std.specs.Prelude.{ℕ, List, [], Option, None}
 use Rattle.fr_route.specs.States.{State}
-use Rattle.fr_shared.specs.Knowledge.{Knowledge}
-use Rattle.fr_shared_ways.specs.Knowledge.{Knowledge as WayKnowledge}
+use Rattle.fr_shared.specs.HopTables.{HopKnowledge}
+use Rattle.fr_shared.specs.WayTables.{WayKnowledge}
 use Rattle.fr_readers.specs.Published.{Published, WayPushes, no_pushes, published}
 
 -- the session, the nodes that its last accepted round rerouted, once there are readers of hops or of ways, their tables,
@@ -10,7 +10,7 @@ use Rattle.fr_readers.specs.Published.{Published, WayPushes, no_pushes, publishe
 pub record Held : Type 0 where
   pub session : Option State
   pub rerouted : List ℕ
-  pub table : Option Knowledge
+  pub table : Option HopKnowledge
   pub ways : Option WayKnowledge
   pub pushes : WayPushes
   pub begun : List ℕ

@@ -1,13 +1,13 @@
 -- The value of a null reader of ways, and the answers of such readers. This project's own.
 use Rattle.std.specs.Prelude.{◌≡◌, ℕ, ◌<◌, ◌≤◌, ◌⊎◌, List, [], Option, Some, None}
-use Rattle.fr_shared_ways.specs.Knowledge.{Knowledge}
-use Rattle.fr_shared_ways.specs.Reading.{HasRead, IsChosen}
+use Rattle.fr_shared.specs.WayTables.{IsChosen, WayKnowledge, way_codec}
+use Rattle.fr_shared.specs.Reading.{HasRead}
 use Rattle.revroute_c.specs.Questions.{cut_off, no_node}
 use Rattle.revroute_c.specs.Replies.{Outcome, GivesList}
 use Rattle.revroute_c.specs.Statuses.{REVROUTE_NO_NETWORK, REVROUTE_NO_ROUTE}
 
 -- the value of a null handle
-abbrev pub no_way_reader : Knowledge
+abbrev pub no_way_reader : WayKnowledge
 no_way_reader = record {
   table = record { words = 0; slots = 0; views_name = 0; atom = 0; block = 0; offset = 0; slot_names = [] };
   nodes = 0;
@@ -15,11 +15,11 @@ no_way_reader = record {
 }
 
 -- these are the first ways of a node, as this reader has read them
-abbrev pub AreWaysRead : Knowledge → Knowledge → ℕ → List ℕ → Type 0
-AreWaysRead old new node list = (node < old.nodes) × HasRead old new node list
+abbrev pub AreWaysRead : WayKnowledge → WayKnowledge → ℕ → List ℕ → Type 0
+AreWaysRead old new node list = (node < old.nodes) × HasRead way_codec old new node list
 
 -- the result of a call that reads the first ways of a node
-pub record TellsWaysRead (old new : Knowledge) (node : ℕ) (o : Outcome ℕ) : Type 0 where
+pub record TellsWaysRead (old new : WayKnowledge) (node : ℕ) (o : Outcome ℕ) : Type 0 where
   pub gives : GivesList (AreWaysRead old new node) o
   -- room for five ways is enough
   pub few : o.size ≤ 5
@@ -32,15 +32,15 @@ way_number None = cut_off
 way_number (Some y) = y
 
 -- this number is the way that a choice chooses among the first ways of a node, as this reader has read them
-pub record IsWayRead (old new : Knowledge) (node choice number : ℕ) : Type 0 where
+pub record IsWayRead (old new : WayKnowledge) (node choice number : ℕ) : Type 0 where
   pub list : List ℕ
-  pub read : HasRead old new node list
+  pub read : HasRead way_codec old new node list
   pub chosen : Option ℕ
   pub is_chosen : IsChosen list choice chosen
   pub number_is : number ≡ way_number chosen
 
 -- the answer for any node
-abbrev pub TellsWayRead : Knowledge → Knowledge → ℕ → ℕ → ℕ → Type 0
+abbrev pub TellsWayRead : WayKnowledge → WayKnowledge → ℕ → ℕ → ℕ → Type 0
 TellsWayRead old new node choice number =
     ((old.nodes ≤ node) × (number ≡ no_node) × (new ≡ old))
     ⊎ ((node < old.nodes) × IsWayRead old new node choice number)

@@ -5,8 +5,8 @@ ghost use Rattle.std.specs.Borrow.{sem};
 ghost use denote.RawPtr.{null_ptr};
 ghost use Rattle.fr_route.specs.States.{State};
 ghost use Rattle.fr_readers.specs.Published.{WayPushes, published};
-ghost use Rattle.fr_shared.specs.Knowledge.{Knowledge};
-ghost use Rattle.fr_shared_ways.specs.Knowledge.{Knowledge as WayKnowledge};
+ghost use Rattle.fr_shared.specs.HopTables.{HopKnowledge};
+ghost use Rattle.fr_shared.specs.WayTables.{WayKnowledge};
 ghost use Rattle.revroute_c.specs.SessionStates.{no_session, held};
 ghost use Rattle.revroute_c.specs.Holding.{holds};
 
@@ -25,7 +25,7 @@ pub struct Handle {
     at: *mut u8,
     pub ghost session: { Option State },
     pub ghost rerouted: { List ℕ },
-    pub ghost table: { Option Knowledge },
+    pub ghost table: { Option HopKnowledge },
     pub ghost ways: { Option WayKnowledge },
     pub ghost pushes: { WayPushes },
     pub ghost begun: { List ℕ },

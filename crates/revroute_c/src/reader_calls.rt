@@ -4,6 +4,7 @@ ghost use Rattle.std.specs.Prelude.{◌≡◌, ◌≢◌, ◌⊎◌, ◌↔◌, 
 ghost use denote.RawPtr.{null_ptr};
 ghost use Rattle.fr_shared.specs.Knowledge.{past_of};
 ghost use Rattle.fr_shared.specs.Reading.{LearnsPast};
+ghost use Rattle.fr_shared.specs.HopTables.{hop_codec};
 ghost use Rattle.revroute_c.specs.Lending.{held_by};
 ghost use Rattle.revroute_c.specs.Questions.{no_network};
 ghost use Rattle.revroute_c.specs.ReaderLending.{IsSameReader};
@@ -102,7 +103,7 @@ pub extern "C" fn revroute_reader_learn(reader: &mut ReaderHandle, other: &mut R
         → other.old.reading.table ≡ reader.old.reading.table }
     // The reader then answers from the last table that the other reader knew, or from a later one. So it sees a
     // change of the session, if the other reader was opened after that change.
-    ensures learns { TellsLearned (LearnsPast reader.old.reading (past_of other.old.reading) reader.new.reading)
+    ensures learns { TellsLearned (LearnsPast hop_codec reader.old.reading (past_of other.old.reading) reader.new.reading)
         reader.old.reading reader.new.reading result }
     ensures same { IsSameReader other.old other.new }
     ensures same_handle { reader.new.at ≡ reader.old.at }

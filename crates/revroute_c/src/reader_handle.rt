@@ -3,13 +3,13 @@
 ghost use Rattle.std.specs.Prelude.{◌≡◌, ◌≢◌, MatchOption};
 ghost use Rattle.std.specs.Borrow.{sem};
 ghost use denote.RawPtr.{null_ptr};
-ghost use Rattle.fr_shared.specs.Knowledge.{Knowledge};
-ghost use Rattle.fr_shared.specs.contracts.reader.Reader.{the_row as reader_row};
+ghost use Rattle.fr_shared.specs.HopTables.{HopKnowledge};
+ghost use Rattle.revroute_c.specs.ReaderRows.{hop_reader as reader_row};
 ghost use Rattle.revroute_c.specs.Owning.{owned_at};
 ghost use Rattle.revroute_c.specs.Readers.{no_reader};
 
 use crate::box_parts::BoxParts;
-use fr_shared::Reader;
+use fr_shared::hops::Reader;
 use std::alloc::Global;
 use std::marker::{Model, Send};
 use std::mem::replace;
@@ -21,7 +21,7 @@ use std::ptr::null_mut;
 #[derive(Drop)]
 pub struct ReaderHandle {
     at: *mut u8,
-    pub ghost reading: { Knowledge },
+    pub ghost reading: { HopKnowledge },
 }
 
 impl Model for ReaderHandle {

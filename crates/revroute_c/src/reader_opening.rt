@@ -6,7 +6,7 @@ ghost use Rattle.revroute_c.specs.ReaderOpening.{OpensTable, ReadsTableOf};
 
 use crate::handle::Handle;
 use crate::session_state::SessionState;
-use fr_shared::Reader;
+use fr_shared::hops::Reader;
 use std::alloc::{AllocError, Global};
 
 /// A reader of the session's hops.

@@ -1,14 +1,14 @@
 //! Readers, which other threads use while the session changes.
 
 ghost use Rattle.std.specs.Prelude.{◌≡◌, ◌⊎◌, IfOk};
-ghost use Rattle.fr_shared.specs.Words.{hop_of};
+ghost use Rattle.fr_shared.specs.HopTables.{hop_of};
 ghost use Rattle.revroute_c.specs.Questions.{number_of};
 ghost use Rattle.revroute_c.specs.Readers.{ReadsOn, TellsHopRead, TellsWalk};
 ghost use Rattle.revroute_c.specs.Replies.{outcome};
 
 use crate::questions::{CUT_OFF, HERE, HOP_OF_NO_NODE};
 use crate::statuses::{ANSWERED, NO_ROUTE, TOO_SHORT};
-use fr_shared::{Reader, WalkEnd};
+use fr_shared::hops::{Reader, WalkEnd};
 use std::alloc::{AllocError, Global};
 
 /// One more reader of the same table.
@@ -16,7 +16,7 @@ pub(crate) fn copy_reader(reader: &mut Reader, alloc: Global) -> Result<Box<Read
     ensures same { reader.new ≡ reader.old }
     ensures other { IfOk result (λ other. other.value ≡ reader.old) }
 {
-    let other = reader.another()?;
+    let other = reader.try_clone()?;
     Ok(Box::new(alloc, other)?)
 }
 
@@ -34,9 +34,9 @@ pub(crate) fn read_hop(reader: &mut Reader, node: u32) -> u32
 fn number_in(word: u64) -> u32
     ensures { result ≡ number_of (hop_of word) }
 {
-    if word < fr_shared::HERE {
+    if word < fr_shared::hops::HERE {
         word as u32
-    } else if word == fr_shared::HERE {
+    } else if word == fr_shared::hops::HERE {
         HERE
     } else {
         CUT_OFF

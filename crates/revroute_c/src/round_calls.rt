@@ -125,7 +125,7 @@ pub extern "C" fn revroute_change(
 /// have changed. If the change is not made, the pushes are unchanged too.
 ///
 /// The results are those of [`revroute_change`]. The cost is that of
-/// [`Router::change_telling_ways_alone`](fr_route::Router::change_telling_ways_alone).
+/// [`Router::change_with_ways_alone`](fr_route::Router::change_with_ways_alone).
 #[unsafe(no_mangle)]
 pub extern "C" fn revroute_change_with_ways(
     alloc: Global,

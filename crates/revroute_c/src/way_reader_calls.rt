@@ -2,8 +2,9 @@
 
 ghost use Rattle.std.specs.Prelude.{◌≡◌, ◌≢◌, ◌⊎◌, ◌↔◌};
 ghost use denote.RawPtr.{null_ptr};
-ghost use Rattle.fr_shared_ways.specs.Knowledge.{past_of};
-ghost use Rattle.fr_shared_ways.specs.Reading.{LearnsPast};
+ghost use Rattle.fr_shared.specs.Knowledge.{past_of};
+ghost use Rattle.fr_shared.specs.Reading.{LearnsPast};
+ghost use Rattle.fr_shared.specs.WayTables.{way_codec};
 ghost use Rattle.revroute_c.specs.Lending.{held_by};
 ghost use Rattle.revroute_c.specs.Questions.{no_network};
 ghost use Rattle.revroute_c.specs.ReaderOpening.{OpensWays, ReadsWaysOf};
@@ -95,7 +96,7 @@ pub extern "C" fn revroute_way_reader_learn(
     requires one_table { reader.old.at ≢ null_ptr → other.old.at ≢ null_ptr
         → other.old.reading.table ≡ reader.old.reading.table }
     // The reader then answers from the last table that the other reader knew, or from a later one.
-    ensures learns { TellsLearned (LearnsPast reader.old.reading (past_of other.old.reading) reader.new.reading)
+    ensures learns { TellsLearned (LearnsPast way_codec reader.old.reading (past_of other.old.reading) reader.new.reading)
         reader.old.reading reader.new.reading result }
     ensures same { IsSameWayReader other.old other.new }
     ensures same_handle { reader.new.at ≡ reader.old.at }

@@ -3,13 +3,13 @@
 ghost use Rattle.std.specs.Prelude.{◌≡◌, ◌≢◌, MatchOption};
 ghost use Rattle.std.specs.Borrow.{sem};
 ghost use denote.RawPtr.{null_ptr};
-ghost use Rattle.fr_shared_ways.specs.Knowledge.{Knowledge};
-ghost use Rattle.fr_shared_ways.specs.contracts.reader.Reader.{the_row as reader_row};
+ghost use Rattle.fr_shared.specs.WayTables.{WayKnowledge};
+ghost use Rattle.revroute_c.specs.ReaderRows.{way_reader as reader_row};
 ghost use Rattle.revroute_c.specs.Owning.{owned_at};
 ghost use Rattle.revroute_c.specs.WayReaders.{no_way_reader};
 
 use crate::box_parts::BoxParts;
-use fr_shared_ways::Reader;
+use fr_shared::ways::Reader;
 use std::alloc::Global;
 use std::marker::{Model, Send};
 use std::mem::replace;
@@ -21,7 +21,7 @@ use std::ptr::null_mut;
 #[derive(Drop)]
 pub struct WayReaderHandle {
     at: *mut u8,
-    pub ghost reading: { Knowledge },
+    pub ghost reading: { WayKnowledge },
 }
 
 impl Model for WayReaderHandle {

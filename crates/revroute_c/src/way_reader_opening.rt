@@ -6,7 +6,7 @@ ghost use Rattle.revroute_c.specs.ReaderOpening.{OpensWays, ReadsWaysOf};
 
 use crate::handle::Handle;
 use crate::session_state::SessionState;
-use fr_shared_ways::Reader;
+use fr_shared::ways::Reader;
 use std::alloc::{AllocError, Global};
 
 /// A reader of the session's ways.

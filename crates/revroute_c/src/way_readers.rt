@@ -7,7 +7,7 @@ ghost use Rattle.revroute_c.specs.WayReaders.{TellsWayRead, TellsWaysRead};
 use crate::questions::{CUT_OFF, HOP_OF_NO_NODE};
 use crate::replies::hand_out;
 use crate::statuses::{ANSWERED, NO_ROUTE, TOO_SHORT};
-use fr_shared_ways::Reader;
+use fr_shared::ways::Reader;
 use std::alloc::{AllocError, Global};
 
 /// One more reader of the same table.
@@ -15,7 +15,7 @@ pub(crate) fn copy_way_reader(reader: &mut Reader, alloc: Global) -> Result<Box<
     ensures same { reader.new ≡ reader.old }
     ensures other { IfOk result (λ other. other.value ≡ reader.old) }
 {
-    let other = reader.another()?;
+    let other = reader.try_clone()?;
     Ok(Box::new(alloc, other)?)
 }
 

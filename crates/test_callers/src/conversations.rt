@@ -28,7 +28,7 @@ pub fn take_line<T: Threads + Wait + Sync>(
         plan: &plan,
         gate: &OpenGate,
     };
-    conversation.take(&crew, come)
+    conversation.push_piece(&crew, come)
 }
 
 /// The answers to the lines of a text, each line by itself.

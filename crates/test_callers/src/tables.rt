@@ -3,7 +3,7 @@
 ghost use Rattle.std.specs.Prelude.{◌≡◌, OnOk, OnErr};
 ghost use Rattle.fr_tables.specs.Tables.{IsLoopFree};
 
-use fr_tables::laws::{order_law, push_law};
+use fr_tables::laws::{push_order_law, push_law};
 use fr_tables::{Hop, TableFault, push_order};
 use std::alloc::Global;
 
@@ -15,7 +15,7 @@ pub fn push_all(alloc: Global, table: &mut [Hop], new: &[Hop]) -> Result<(), Tab
 {
     let order = push_order(alloc, table, new)?;
     push_law();
-    order_law();
+    push_order_law();
     for x in &order {
         table[*x as usize] = new[*x as usize];
     }

@@ -16,7 +16,7 @@ use fr_crew::{
 use fr_net::{Edit, LineFault, Net, NetFault, NotEdited, Question, Request, Turns, read_line};
 use fr_round::Round;
 use fr_route::{Change, Report, Reroutes, Router, Session, counts_line, fault_number, links_line};
-use fr_shared::open;
+use fr_shared::hops::open;
 use fr_tables::{Hop, find_loop, push_order};
 use std::alloc::{AllocError, Global};
 use std::fmt::Display;
@@ -159,7 +159,7 @@ pub fn make<R: Threads + Wait + Sync + Alloc<A = Global> + Print + Eprint>(
         Call::CutOff => cut_off(rt, answer),
         Call::EarlyReaders => early_readers(rt, answer),
         _ => {
-            if let Some(net) = answer.told(rt, Net::new(rt.alloc(), 4, &CHAIN)) {
+            if let Some(net) = answer.value_or_report(rt, Net::new(rt.alloc(), 4, &CHAIN)) {
                 make_on(rt, answer, net, call);
             }
         }
@@ -214,7 +214,7 @@ fn make_beside<R: Threads + Wait + Sync + Alloc<A = Global> + Eprint>(
 
 /// Appends a line to the answer.
 fn put_line<R: Eprint, E: Display + Drop>(rt: &R, answer: &mut Answer, line: Result<String, E>) {
-    if let Some(line) = answer.told(rt, line) {
+    if let Some(line) = answer.value_or_report(rt, line) {
         answer.say(&line);
     }
 }
@@ -234,7 +234,7 @@ fn put_made<R: Alloc<A = Global> + Eprint>(
     answer: &mut Answer,
     made: Result<Net, NetFault>,
 ) {
-    if let Some(net) = answer.told(rt, made) {
+    if let Some(net) = answer.value_or_report(rt, made) {
         put_net(rt, answer, &net);
     }
 }
@@ -335,7 +335,7 @@ fn put_read_line<R: Alloc<A = Global> + Eprint>(
     answer: &mut Answer,
     read: Result<Request, LineFault>,
 ) {
-    match answer.told(rt, read) {
+    match answer.value_or_report(rt, read) {
         Some(Request::Walk { x }) => {
             answer.say("walk");
             answer.put(&x);
@@ -358,9 +358,9 @@ fn refused_line<R: Alloc<A = Global> + Eprint>(rt: &R, answer: &mut Answer) {
 /// made.
 fn played<R: Alloc<A = Global> + Eprint>(rt: &R, answer: &mut Answer, net: &Net) {
     let schedule = [0, 1, 0, 1, 0, 1, 0, 1, 0, 1];
-    if let Some(targets) = answer.told(rt, targets(rt.alloc())) {
+    if let Some(targets) = answer.value_or_report(rt, targets(rt.alloc())) {
         let entries = play(rt.alloc(), net, 0, targets, &schedule);
-        if let Some(entries) = answer.told(rt, entries) {
+        if let Some(entries) = answer.value_or_report(rt, entries) {
             put_played(rt, answer, net, &entries);
         }
     }
@@ -380,9 +380,9 @@ fn put_played<R: Alloc<A = Global> + Eprint>(
 }
 
 fn machine<R: Alloc<A = Global> + Eprint>(rt: &R, answer: &mut Answer, net: &Net) {
-    if let Some(targets) = answer.told(rt, targets(rt.alloc())) {
+    if let Some(targets) = answer.value_or_report(rt, targets(rt.alloc())) {
         let machine = Machine::new(rt.alloc(), net, 0, targets);
-        if let Some(machine) = answer.told(rt, machine) {
+        if let Some(machine) = answer.value_or_report(rt, machine) {
             put_counts(rt, answer, machine.counts());
         }
     }
@@ -433,7 +433,7 @@ fn put_settled<R: Alloc<A = Global> + Eprint, E: Display + Drop>(
     answer: &mut Answer,
     settled: Result<Settled, E>,
 ) {
-    if let Some(settled) = answer.told(rt, settled) {
+    if let Some(settled) = answer.value_or_report(rt, settled) {
         put_counts(rt, answer, &settled.counts);
     }
 }
@@ -445,9 +445,9 @@ fn settled_by_one<R: Threads + Wait + Sync + Alloc<A = Global> + Eprint>(
     answer: &mut Answer,
 ) {
     let plan = Plan::new(1, 0, 1000).unwrap();
-    if let Some(net) = answer.told(rt, Net::new(rt.alloc(), 8, &LEFT_TO_RIGHT)) {
+    if let Some(net) = answer.value_or_report(rt, Net::new(rt.alloc(), 8, &LEFT_TO_RIGHT)) {
         let settled = settle(rt, rt.alloc(), net, 0, &plan, &OpenGate);
-        if let Some(settled) = answer.told(rt, settled) {
+        if let Some(settled) = answer.value_or_report(rt, settled) {
             put_settlement(rt, answer, &settled);
         }
     }
@@ -471,7 +471,7 @@ fn routed<R: Threads + Wait + Sync + Alloc<A = Global> + Print + Eprint>(
 ) {
     let plan = Plan::new(3, 0, 1000).unwrap();
     let opened = Router::open(rt, rt.alloc(), net, 0, &plan, &OpenGate);
-    if let Some(mut router) = answer.told(rt, opened) {
+    if let Some(mut router) = answer.value_or_report(rt, opened) {
         change_and_walk(rt, answer, &mut router, &plan);
     }
 }
@@ -484,12 +484,12 @@ fn change_and_walk<R: Threads + Wait + Sync + Alloc<A = Global> + Print + Eprint
 ) {
     let cut = Change::Cut { u: 2, v: 1 };
     let changed = router.change(rt, rt.alloc(), cut, plan, &OpenGate);
-    if answer.told(rt, changed).is_none() {
+    if answer.value_or_report(rt, changed).is_none() {
         return look_for_change(rt, answer, router);
     }
     let add = Change::Add { u: 0, v: 3 };
     let changed = router.change(rt, rt.alloc(), add, plan, &OpenGate);
-    if answer.told(rt, changed).is_some() {
+    if answer.value_or_report(rt, changed).is_some() {
         put_walked(rt, answer, router);
     }
 }
@@ -516,7 +516,7 @@ fn has_turned_home(router: &Router) -> bool {
 fn put_walked<R: Alloc<A = Global> + Eprint>(rt: &R, answer: &mut Answer, router: &Router) {
     put_net(rt, answer, router.net());
     if router.net().nodes() == 4 {
-        if let Some(walked) = answer.told(rt, router.walk(rt.alloc(), 2)) {
+        if let Some(walked) = answer.value_or_report(rt, router.walk(rt.alloc(), 2)) {
             answer.put(&walked);
         }
     }
@@ -526,8 +526,7 @@ fn put_walked<R: Alloc<A = Global> + Eprint>(rt: &R, answer: &mut Answer, router
 fn unturned<R: Alloc<A = Global> + Eprint>(rt: &R, answer: &mut Answer, net: &Net) -> Option<Turns>
     ensures { IfSome result (λ turns. turns ≡ replicate net.now.nodes 0) }
 {
-    net.network_law();
-    answer.told(rt, Turns::none(rt.alloc(), net.nodes()))
+    answer.value_or_report(rt, Turns::none(rt.alloc(), net.nodes()))
 }
 
 fn counted<R: Threads + Wait + Sync + Alloc<A = Global> + Eprint>(
@@ -559,16 +558,16 @@ fn put_counted<R: Alloc<A = Global> + Eprint, E: Display + Drop>(
     answer: &mut Answer,
     counted: Result<Turns, E>,
 ) {
-    if let Some(turns) = answer.told(rt, counted) {
+    if let Some(turns) = answer.value_or_report(rt, counted) {
         put_counts(rt, answer, turns.counts());
     }
 }
 
 /// A router that uses only the calling thread. If its change fails for want of memory, it must be unchanged.
 fn routed_alone<R: Alloc<A = Global> + Print + Eprint>(rt: &R, answer: &mut Answer, net: Net) {
-    if let Some(mut router) = answer.told(rt, Router::open_alone(rt.alloc(), net, 0)) {
+    if let Some(mut router) = answer.value_or_report(rt, Router::open_alone(rt.alloc(), net, 0)) {
         let changed = router.change_alone(rt.alloc(), Change::Cut { u: 2, v: 1 });
-        if answer.told(rt, changed).is_some() {
+        if answer.value_or_report(rt, changed).is_some() {
             put_net(rt, answer, router.net());
         } else {
             look_for_change(rt, answer, &router);
@@ -578,9 +577,9 @@ fn routed_alone<R: Alloc<A = Global> + Print + Eprint>(rt: &R, answer: &mut Answ
 
 /// The nodes that a cut reroutes. If it fails for want of memory, the router must be unchanged.
 fn rerouted<R: Alloc<A = Global> + Print + Eprint>(rt: &R, answer: &mut Answer, net: Net) {
-    if let Some(mut router) = answer.told(rt, Router::open_alone(rt.alloc(), net, 0)) {
+    if let Some(mut router) = answer.value_or_report(rt, Router::open_alone(rt.alloc(), net, 0)) {
         let all = router.changed_since(rt.alloc(), None);
-        if let Some(mut nodes) = answer.told(rt, all) {
+        if let Some(mut nodes) = answer.value_or_report(rt, all) {
             reroute(rt, answer, &mut router, &mut nodes);
         }
     }
@@ -594,7 +593,7 @@ fn reroute<R: Alloc<A = Global> + Print + Eprint>(
 ) {
     let cut = Change::Cut { u: 2, v: 1 };
     let changed = router.change_telling_alone(rt.alloc(), cut, nodes);
-    if answer.told(rt, changed).is_some() {
+    if answer.value_or_report(rt, changed).is_some() {
         answer.put(nodes);
     } else {
         look_for_change(rt, answer, router);
@@ -604,8 +603,8 @@ fn reroute<R: Alloc<A = Global> + Print + Eprint>(
 /// What the move of the destination reroutes, with the pushes to routers that hold all their ways. If it fails for want of
 /// memory, the router must be unchanged.
 fn rerouted_ways<R: Alloc<A = Global> + Print + Eprint>(rt: &R, answer: &mut Answer, net: Net) {
-    if let Some(mut router) = answer.told(rt, Router::open_alone(rt.alloc(), net, 0)) {
-        if let Some(mut reroutes) = answer.told(rt, Reroutes::none(rt.alloc())) {
+    if let Some(mut router) = answer.value_or_report(rt, Router::open_alone(rt.alloc(), net, 0)) {
+        if let Some(mut reroutes) = answer.value_or_report(rt, Reroutes::none(rt.alloc())) {
             reroute_ways(rt, answer, &mut router, &mut reroutes);
         }
     }
@@ -618,8 +617,8 @@ fn reroute_ways<R: Alloc<A = Global> + Print + Eprint>(
     reroutes: &mut Reroutes,
 ) {
     let to = Change::Destination { dest: 3 };
-    let changed = router.change_telling_ways_alone(rt.alloc(), to, reroutes);
-    if answer.told(rt, changed).is_some() {
+    let changed = router.change_with_ways_alone(rt.alloc(), to, reroutes);
+    if answer.value_or_report(rt, changed).is_some() {
         answer.put(&reroutes.nodes());
         answer.put(&reroutes.shrink().nodes);
         answer.put(&reroutes.shrink().list);
@@ -634,7 +633,7 @@ fn reroute_ways<R: Alloc<A = Global> + Print + Eprint>(
 fn answered_alone<R: Alloc<A = Global> + Eprint>(rt: &R, answer: &mut Answer) {
     let mut session = Session::new();
     let report = session.answer_line_alone(rt.alloc(), NETWORK_LINE);
-    if let Some(Some(report)) = answer.told(rt, report) {
+    if let Some(Some(report)) = answer.value_or_report(rt, report) {
         answer.say(&report);
     }
     let request = Request::Ask(Question::Links);
@@ -649,7 +648,7 @@ fn answered_alone<R: Alloc<A = Global> + Eprint>(rt: &R, answer: &mut Answer) {
 /// A walk in an open round, on a settled chain.
 fn walked_live<R: Alloc<A = Global> + Eprint>(rt: &R, answer: &mut Answer) {
     let alloc = rt.alloc();
-    let Some(net) = answer.told(rt, Net::new(alloc, 4, &[(1, 0), (2, 1), (3, 2)])) else {
+    let Some(net) = answer.value_or_report(rt, Net::new(alloc, 4, &[(1, 0), (2, 1), (3, 2)])) else {
         return;
     };
     let (round, mut workers) = match Round::open(alloc, net, 0, 1) {
@@ -658,7 +657,7 @@ fn walked_live<R: Alloc<A = Global> + Eprint>(rt: &R, answer: &mut Answer) {
     };
     if let Some(mut worker) = workers.pop() {
         let walk = live_walk(alloc, &round, &mut worker, 3, 10);
-        if let Some(walk) = answer.told(rt, walk) {
+        if let Some(walk) = answer.value_or_report(rt, walk) {
             answer.put(&walk.nodes);
             answer.put(&walk.end);
         }
@@ -669,20 +668,20 @@ fn walked_live<R: Alloc<A = Global> + Eprint>(rt: &R, answer: &mut Answer) {
 fn pushed<R: Alloc<A = Global> + Eprint>(rt: &R, answer: &mut Answer) {
     let old = [Hop::Here, Hop::To(0), Hop::To(1), Hop::To(0)];
     let new = [Hop::Here, Hop::To(2), Hop::To(3), Hop::To(0)];
-    if let Some(order) = answer.told(rt, push_order(rt.alloc(), &old, &new)) {
+    if let Some(order) = answer.value_or_report(rt, push_order(rt.alloc(), &old, &new)) {
         answer.put(&order);
     }
     let between = [Hop::Here, Hop::To(2), Hop::To(1), Hop::To(0)];
-    if let Some(found) = answer.told(rt, find_loop(rt.alloc(), &between)) {
+    if let Some(found) = answer.value_or_report(rt, find_loop(rt.alloc(), &between)) {
         answer.put(&found);
     }
 }
 
 /// The nodes of a settled chain that are pushed into a table in which all are cut off.
 fn pushed_to<R: Alloc<A = Global> + Eprint>(rt: &R, answer: &mut Answer, net: Net) {
-    if let Some(router) = answer.told(rt, Router::open_alone(rt.alloc(), net, 0)) {
+    if let Some(router) = answer.value_or_report(rt, Router::open_alone(rt.alloc(), net, 0)) {
         let pushes = router.pushes(rt.alloc(), &[Hop::CutOff; 4]);
-        if let Some(nodes) = answer.told(rt, pushes) {
+        if let Some(nodes) = answer.value_or_report(rt, pushes) {
             answer.put(&nodes);
         }
     }
@@ -690,14 +689,14 @@ fn pushed_to<R: Alloc<A = Global> + Eprint>(rt: &R, answer: &mut Answer, net: Ne
 
 /// A table that threads share, with three readers, each of which reads the hop of another node.
 fn shared<R: Alloc<A = Global> + Eprint>(rt: &R, answer: &mut Answer) {
-    let Some((mut publisher, mut first)) = answer.told(rt, open(rt.alloc(), 4)) else {
+    let Some((mut publisher, mut first)) = answer.value_or_report(rt, open(rt.alloc(), 4)) else {
         return;
     };
     answer.put(&first.hop(1));
-    if let Some(mut second) = answer.told(rt, publisher.reader()) {
+    if let Some(mut second) = answer.value_or_report(rt, publisher.reader()) {
         answer.put(&second.hop(2));
     }
-    if let Some(mut third) = answer.told(rt, first.another()) {
+    if let Some(mut third) = answer.value_or_report(rt, first.try_clone()) {
         answer.put(&third.hop(3));
     }
 }

@@ -75,8 +75,8 @@ fn links(alloc: Global) -> Result<Vec<(u32, u32)>, AllocError> {
 /// one node is dropped. When the worker turns the second hub, the node is a candidate again, and can turn. So no turn is
 /// left to the finisher.
 pub fn grown<R: Threads + Wait + Sync + Alloc<A = Global> + Eprint>(rt: &R, answer: &mut Answer) {
-    if let Some(links) = answer.told(rt, links(rt.alloc())) {
-        if let Some(net) = answer.told::<Net, NetFault, R>(
+    if let Some(links) = answer.value_or_report(rt, links(rt.alloc())) {
+        if let Some(net) = answer.value_or_report::<Net, NetFault, R>(
             rt,
             Net::new(rt.alloc(), NODES, &links),
         ) {
@@ -96,7 +96,7 @@ fn settle_hubs<R: Threads + Wait + Sync + Alloc<A = Global> + Eprint>(
         of_first: AtomicU64::new(0),
     };
     let settled = settle(rt, rt.alloc(), net, 0, &plan, &gate);
-    if let Some(settled) = answer.told(rt, settled) {
+    if let Some(settled) = answer.value_or_report(rt, settled) {
         put_makers(answer, &settled);
     }
 }

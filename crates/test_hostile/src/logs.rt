@@ -20,7 +20,7 @@ pub fn logged<R: Threads + Sync + Alloc<A = Global> + Eprint>(
     answer: &mut Answer,
     net: Net,
 ) {
-    let Some(plans) = answer.told(rt, plans(rt.alloc())) else {
+    let Some(plans) = answer.value_or_report(rt, plans(rt.alloc())) else {
         return;
     };
     match run_logged(rt, rt.alloc(), net, 0, &plans) {
@@ -75,10 +75,10 @@ fn record<R: Alloc<A = Global> + Print + Eprint>(
         return answer.lack(rt, AllocError);
     };
     let _ = recorder.try_turn(&round, 3);
-    if answer.told(rt, recorder.reserve(1)).is_some() {
+    if answer.value_or_report(rt, recorder.reserve(1)).is_some() {
         let _ = recorder.look(&round, 2);
     }
-    if let Some(recorders) = answer.told(rt, Vec::from_array(rt.alloc(), [recorder])) {
+    if let Some(recorders) = answer.value_or_report(rt, Vec::from_array(rt.alloc(), [recorder])) {
         close(rt, answer, round, recorders);
     }
 }

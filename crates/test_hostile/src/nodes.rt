@@ -27,7 +27,7 @@ pub fn known<R: Alloc<A = Global> + Print + Eprint>(rt: &R, answer: &mut Answer)
     answer.put(&node.neighbours());
     node.link_up(5);
     let written = node.written(node.state());
-    if answer.told(rt, written).is_some() {
+    if answer.value_or_report(rt, written).is_some() {
         answer.put(&node.say(5));
     }
 }
@@ -41,7 +41,7 @@ fn know<R: Print + Eprint>(
 ) -> Option<()> {
     let before = node.neighbours();
     let known = node.know(neighbour, 1);
-    let known = answer.told(rt, known);
+    let known = answer.value_or_report(rt, known);
     if known.is_none() && (node.neighbours() != before || node.height() != 7) {
         say(rt, "the router has changed");
     }

@@ -13,10 +13,10 @@ use std::alloc::Global;
 pub fn published<R: Alloc<A = Global> + Print + Eprint>(rt: &R, answer: &mut Answer) {
     let mut session = PublishedSession::new(rt.alloc());
     let line = session.answer_line(rt.alloc(), NETWORK_LINE);
-    if let Some(Some(report)) = answer.told(rt, line) {
+    if let Some(Some(report)) = answer.value_or_report(rt, line) {
         answer.say(&report);
     }
-    if let Some(mut reader) = answer.told(rt, session.reader(rt.alloc())) {
+    if let Some(mut reader) = answer.value_or_report(rt, session.reader(rt.alloc())) {
         session.table_law();
         if let Some(past) = session.past() {
             reader.learn(past);
@@ -32,10 +32,10 @@ pub fn early_readers<R: Alloc<A = Global> + Eprint>(rt: &R, answer: &mut Answer)
     let alloc = rt.alloc();
     let mut session = PublishedSession::new(alloc);
     for _ in 0..2 {
-        if answer.told(rt, session.reader(alloc)).is_some() {
+        if answer.value_or_report(rt, session.reader(alloc)).is_some() {
             answer.say("reader");
         }
-        if answer.told(rt, session.way_reader(alloc)).is_some() {
+        if answer.value_or_report(rt, session.way_reader(alloc)).is_some() {
             answer.say("way reader");
         }
     }
@@ -54,7 +54,7 @@ fn change<R: Alloc<A = Global> + Print + Eprint>(
     let Some(changed) = session.change(rt.alloc(), Change::Cut { u: 2, v: 1 }) else {
         return;
     };
-    if answer.told(rt, changed).is_some() {
+    if answer.value_or_report(rt, changed).is_some() {
         answer.put(&session.rerouted());
         answer.put(&reader.hop(2));
     } else if session.rerouted().len() != 4 {
@@ -72,7 +72,7 @@ fn change_with_ways<R: Alloc<A = Global> + Print + Eprint>(
     let Some(changed) = session.change_with_ways(rt.alloc(), Change::Cut { u: 1, v: 0 }) else {
         return;
     };
-    if answer.told(rt, changed).is_some() {
+    if answer.value_or_report(rt, changed).is_some() {
         answer.put(&session.rerouted());
         answer.put(&session.shrink().nodes);
         answer.put(&session.shrink().list);
@@ -92,15 +92,15 @@ fn replace<R: Alloc<A = Global> + Print + Eprint>(
 )
     requires { 3 < reader.old.nodes }
 {
-    let Some(net) = answer.told(rt, Net::new(rt.alloc(), 2, &CHAIN[..1])) else {
+    let Some(net) = answer.value_or_report(rt, Net::new(rt.alloc(), 2, &CHAIN[..1])) else {
         return;
     };
-    let Some(router) = answer.told(rt, Router::open_alone(rt.alloc(), net, 1)) else {
+    let Some(router) = answer.value_or_report(rt, Router::open_alone(rt.alloc(), net, 1)) else {
         return;
     };
     let before = session.rerouted().len();
     let put = session.put_router(rt.alloc(), router);
-    if answer.told(rt, put).is_some() {
+    if answer.value_or_report(rt, put).is_some() {
         answer.put(&session.rerouted());
         answer.put(&reader.hop(0));
     } else if session.rerouted().len() != before {

@@ -1,7 +1,7 @@
 //! The lines of one session. If a line fails for want of memory or a thread, the session must answer as before, and the
 //! line must be answered when it is asked again.
 
-use crate::telling::told;
+use crate::telling::value_or_report;
 use fr_crew::{Crew, OpenGate, Plan};
 use fr_net::{Question, Request};
 use fr_route::{AnswerFault, AnswerSpace, Form, Line, Session};
@@ -102,11 +102,11 @@ fn answered<R: Threads + Wait + Sync + Alloc<A = Global> + Eprint>(
     plan: &Plan,
 ) -> Option<String> {
     match form {
-        Form::Text => told(
+        Form::Text => value_or_report(
             rt,
             session.answer_line(rt, rt.alloc(), line.as_bytes(), plan, &OpenGate),
         )?,
-        Form::Json | Form::JsonWithWays => told(rt, json_answer(rt, session, form, line, plan))?,
+        Form::Json | Form::JsonWithWays => value_or_report(rt, json_answer(rt, session, form, line, plan))?,
     }
 }
 
@@ -151,7 +151,7 @@ fn links_once<R: Threads + Wait + Sync + Alloc<A = Global> + Eprint>(
     session: &mut Session,
     plan: &Plan,
 ) -> Option<String> {
-    told(rt, asked_for_links(rt, session, plan))
+    value_or_report(rt, asked_for_links(rt, session, plan))
 }
 
 /// The session's answer to the question for its links.

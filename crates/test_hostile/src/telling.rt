@@ -6,7 +6,7 @@ use std::alloc::Global;
 use std::fmt::{Debug, Display, Write};
 
 /// The result of a call. A fault, which must be missing memory or a missing thread, is reported.
-pub fn told<T: Drop, E: Display + Drop, R: Eprint>(rt: &R, outcome: Result<T, E>) -> Option<T>
+pub fn value_or_report<T: Drop, E: Display + Drop, R: Eprint>(rt: &R, outcome: Result<T, E>) -> Option<T>
     ensures { IfSome result (λ value. outcome ≡ Ok value) }
 {
     match outcome {
@@ -54,14 +54,14 @@ impl Answer {
     }
 
     /// The result of a call. A fault is reported, and the answer is then incomplete.
-    pub fn told<T: Drop, E: Display + Drop, R: Eprint>(
+    pub fn value_or_report<T: Drop, E: Display + Drop, R: Eprint>(
         &mut self,
         rt: &R,
         outcome: Result<T, E>,
     ) -> Option<T>
         ensures { IfSome result (λ value. outcome ≡ Ok value) }
     {
-        let value = told(rt, outcome);
+        let value = value_or_report(rt, outcome);
         if value.is_none() {
             self.is_whole = false;
         }

@@ -32,7 +32,7 @@ fn put_list<R: Print + Eprint>(
     listed: Result<(), AllocError>,
     list: &[u32],
 ) {
-    if answer.told(rt, listed).is_some() {
+    if answer.value_or_report(rt, listed).is_some() {
         answer.put(&list);
     } else if !list.is_empty() {
         say(rt, "the list is not empty");
@@ -49,10 +49,10 @@ fn put_rows(answer: &mut Answer, table: &WayTable) {
 /// The ways of nodes of a router, those of all nodes, and a nearest route.
 pub fn listed<R: Alloc<A = Global> + Print + Eprint>(rt: &R, answer: &mut Answer) {
     let alloc = rt.alloc();
-    let Some(net) = answer.told(rt, Net::new(alloc, 4, &DOWN)) else {
+    let Some(net) = answer.value_or_report(rt, Net::new(alloc, 4, &DOWN)) else {
         return;
     };
-    let Some(mut router) = answer.told(rt, Router::open_alone(alloc, net, 0)) else {
+    let Some(mut router) = answer.value_or_report(rt, Router::open_alone(alloc, net, 0)) else {
         return;
     };
     if router.net().nodes() == 4 {
@@ -71,7 +71,7 @@ fn list_some<R: Alloc<A = Global> + Print + Eprint>(
     requires { 3 < router.old.nodes }
     ensures { router.new ≡ router.old }
 {
-    if let Some(mut list) = answer.told(rt, Vec::from_array(rt.alloc(), [3])) {
+    if let Some(mut list) = answer.value_or_report(rt, Vec::from_array(rt.alloc(), [3])) {
         let listed = router.ways(3, &mut list);
         put_list(rt, answer, listed, &list);
         let listed = router.ways(2, &mut list);
@@ -83,10 +83,10 @@ fn list_some<R: Alloc<A = Global> + Print + Eprint>(
 fn list_all<R: Alloc<A = Global> + Eprint>(rt: &R, answer: &mut Answer, router: &mut Router)
     requires { 3 < router.old.nodes }
 {
-    if let Some(table) = answer.told(rt, router.all_ways(rt.alloc())) {
+    if let Some(table) = answer.value_or_report(rt, router.all_ways(rt.alloc())) {
         put_rows(answer, &table);
     }
-    if let Some(walked) = answer.told(rt, router.nearest(rt.alloc(), 3)) {
+    if let Some(walked) = answer.value_or_report(rt, router.nearest(rt.alloc(), 3)) {
         answer.put(&walked);
     }
 }
@@ -94,7 +94,7 @@ fn list_all<R: Alloc<A = Global> + Eprint>(rt: &R, answer: &mut Answer, router: 
 /// Appends the pushes that lead from other ways to those of a router to the answer.
 fn put_way_pushes<R: Alloc<A = Global> + Eprint>(rt: &R, answer: &mut Answer, router: &mut Router) {
     let held = WayTable::from_rows(rt.alloc(), &[0, 0, 1, 3, 5], &[0, 0, 1, 1, 2]);
-    if let Some(Some(held)) = answer.told(rt, held) {
+    if let Some(Some(held)) = answer.value_or_report(rt, held) {
         match router.phases(rt.alloc(), &held) {
             Ok(plan) => put_plan(answer, &plan),
             Err(fault) => answer.lack(rt, fault),
@@ -105,10 +105,10 @@ fn put_way_pushes<R: Alloc<A = Global> + Eprint>(rt: &R, answer: &mut Answer, ro
 /// The route and the nearest route of a node that is cut off, and the fault of a table that is too long.
 pub fn cut_off<R: Alloc<A = Global> + Eprint>(rt: &R, answer: &mut Answer) {
     let alloc = rt.alloc();
-    let Some(net) = answer.told(rt, Net::new(alloc, 4, &DOWN[..2])) else {
+    let Some(net) = answer.value_or_report(rt, Net::new(alloc, 4, &DOWN[..2])) else {
         return;
     };
-    let Some(mut router) = answer.told(rt, Router::open_alone(alloc, net, 0)) else {
+    let Some(mut router) = answer.value_or_report(rt, Router::open_alone(alloc, net, 0)) else {
         return;
     };
     if router.net().nodes() == 4 {
@@ -125,17 +125,17 @@ pub fn cut_off<R: Alloc<A = Global> + Eprint>(rt: &R, answer: &mut Answer) {
 fn put_walks<R: Alloc<A = Global> + Eprint>(rt: &R, answer: &mut Answer, router: &mut Router)
     requires { 3 < router.old.nodes }
 {
-    if let Some(walked) = answer.told(rt, router.walk(rt.alloc(), 3)) {
+    if let Some(walked) = answer.value_or_report(rt, router.walk(rt.alloc(), 3)) {
         answer.put(&walked);
     }
-    if let Some(walked) = answer.told(rt, router.nearest(rt.alloc(), 3)) {
+    if let Some(walked) = answer.value_or_report(rt, router.nearest(rt.alloc(), 3)) {
         answer.put(&walked);
     }
 }
 
 /// Distances from node 0, measured at once and in room for them, the ways that they give, and a nearest walk.
 pub fn measured<R: Alloc<A = Global> + Print + Eprint>(rt: &R, answer: &mut Answer) {
-    let Some(net) = answer.told(rt, Net::new(rt.alloc(), 4, &DOWN)) else {
+    let Some(net) = answer.value_or_report(rt, Net::new(rt.alloc(), 4, &DOWN)) else {
         return;
     };
     if net.nodes() == 4 {
@@ -163,13 +163,13 @@ fn put_measured<R: Alloc<A = Global> + Print + Eprint>(
     requires measured { IsMeasureOf net.now distances.now }
     requires node { 3 < net.now.nodes }
 {
-    if let Some(mut list) = answer.told(rt, Vec::from_array(rt.alloc(), [3])) {
+    if let Some(mut list) = answer.value_or_report(rt, Vec::from_array(rt.alloc(), [3])) {
         let listed = distances.ways(net, 3, &mut list);
         put_list(rt, answer, listed, &list);
         let listed = distances.ways(net, 2, &mut list);
         put_list(rt, answer, listed, &list);
     }
-    if let Some(walk) = answer.told(rt, distances.walk(rt.alloc(), net, 3)) {
+    if let Some(walk) = answer.value_or_report(rt, distances.walk(rt.alloc(), net, 3)) {
         answer.put(&walk);
     }
 }
@@ -193,7 +193,7 @@ fn table<R: Alloc<A = Global> + Print + Eprint>(
     answer: &mut Answer,
     rows: &[&[u32]],
 ) -> Option<WayTable> {
-    let mut table = answer.told(rt, WayTable::with_capacity(rt.alloc(), 1, 1))?;
+    let mut table = answer.value_or_report(rt, WayTable::with_capacity(rt.alloc(), 1, 1))?;
     for row in rows {
         push_row(rt, answer, &mut table, row)?;
     }
@@ -209,7 +209,7 @@ fn push_row<R: Print + Eprint>(
 ) -> Option<()> {
     let before = (table.len(), table.list().len());
     let pushed = table.push_row(ways);
-    let pushed = answer.told(rt, pushed);
+    let pushed = answer.value_or_report(rt, pushed);
     if pushed.is_none() && (table.len(), table.list().len()) != before {
         say(rt, "the table has changed");
     }
@@ -226,7 +226,7 @@ fn put_phases<R: Alloc<A = Global> + Eprint>(
     match phases(rt.alloc(), old, new) {
         Ok(plan) => {
             put_plan(answer, &plan);
-            if let Some(plan) = answer.told(rt, known_phases(rt.alloc(), old, new)) {
+            if let Some(plan) = answer.value_or_report(rt, known_phases(rt.alloc(), old, new)) {
                 put_plan(answer, &plan);
             }
         }

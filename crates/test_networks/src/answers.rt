@@ -37,7 +37,7 @@ impl Answer {
     }
 
     /// Notes that the input is not a case.
-    pub fn refuse(&mut self) {
+    pub fn note_no_case(&mut self) {
         self.is_of_case = false;
     }
 

@@ -10,7 +10,7 @@ pub fn word<'a>(answer: &mut Answer, value: &'a Value) -> &'a str {
     if let Some(word) = value.as_str() {
         return word;
     }
-    answer.refuse();
+    answer.note_no_case();
     ""
 }
 
@@ -19,7 +19,7 @@ pub fn items<'a>(answer: &mut Answer, value: &'a Value) -> &'a [Value] {
     if let Some(items) = value.as_array() {
         return items.as_slice();
     }
-    answer.refuse();
+    answer.note_no_case();
     &[]
 }
 
@@ -28,7 +28,7 @@ pub fn count(answer: &mut Answer, value: &Value) -> u64 {
     if let Some(count) = value.as_u64() {
         return count;
     }
-    answer.refuse();
+    answer.note_no_case();
     0
 }
 
@@ -38,7 +38,7 @@ pub fn number(answer: &mut Answer, value: &Value) -> u32 {
     if count <= u32::MAX as u64 {
         return count as u32;
     }
-    answer.refuse();
+    answer.note_no_case();
     0
 }
 
@@ -90,7 +90,7 @@ fn push_link(answer: &mut Answer, links: &mut Vec<(u32, u32)>, link: &Value) {
             let link = (number(answer, tail), number(answer, head));
             answer.note(links.push(link).is_ok());
         }
-        _ => answer.refuse(),
+        _ => answer.note_no_case(),
     }
 }
 

@@ -8,7 +8,7 @@ use fr_net::{Edit, EditFault, Net, NetFault, NotEdited};
 use serde_json::Value;
 
 /// Answers a question about edits of a network. Returns whether it is such a question.
-pub fn answer_about(answer: &mut Answer, net: &mut Net, asked: &str, given: &[Value]) -> bool {
+pub fn answer_case(answer: &mut Answer, net: &mut Net, asked: &str, given: &[Value]) -> bool {
     match (asked, given) {
         ("edits", [edits]) => several(answer, net, edits),
         ("edit_if", [edits, most]) => in_place(answer, net, edits, most),
@@ -25,7 +25,7 @@ fn edit_of(answer: &mut Answer, named: &str, u: &Value, v: &Value) -> Edit {
         "cut" => return Edit::Cut { u, v },
         "add" => return Edit::Add { u, v },
         "join" => {}
-        _ => answer.refuse(),
+        _ => answer.note_no_case(),
     }
     Edit::Join { u, v }
 }
@@ -63,7 +63,7 @@ fn push(answer: &mut Answer, edits: &mut Vec<Edit>, given: &Value) {
             let edit = edit_of(answer, named, u, v);
             answer.note(edits.push(edit).is_ok());
         }
-        _ => answer.refuse(),
+        _ => answer.note_no_case(),
     }
 }
 

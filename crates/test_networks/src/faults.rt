@@ -33,7 +33,7 @@ fn net_fault(answer: &mut Answer, named: &Value, given: &[Value]) -> NetFault {
         ("Cycle", [walk]) => return NetFault::Cycle(numbers(answer, walk)),
         ("NoLink", []) => return NetFault::NoLink,
         ("Memory", []) => {}
-        _ => answer.refuse(),
+        _ => answer.note_no_case(),
     }
     NetFault::Memory
 }
@@ -42,7 +42,7 @@ fn tell_line_fault(answer: &mut Answer, named: &Value) {
     match word(answer, named) {
         "NotJson" => answer.show(&LineFault::NotJson),
         "NotRequest" => answer.show(&LineFault::NotRequest),
-        _ => answer.refuse(),
+        _ => answer.note_no_case(),
     }
 }
 
@@ -59,6 +59,6 @@ fn tell_check_fault(answer: &mut Answer, index: &Value, named: &Value) {
             index,
             why: Why::NotHeld,
         }),
-        _ => answer.refuse(),
+        _ => answer.note_no_case(),
     }
 }

@@ -28,7 +28,7 @@ pub fn answer(answer: &mut Answer, asked: &str, given: &[Value]) -> bool {
 
 /// Answers a question about the counts of a network. Returns whether it is such a question. The destination is node 0,
 /// unless steps name another.
-pub fn answer_about(answer: &mut Answer, net: &Net, asked: &str, given: &[Value]) -> bool {
+pub fn answer_case(answer: &mut Answer, net: &Net, asked: &str, given: &[Value]) -> bool {
     match (asked, given) {
         ("finish_turns", []) => finished(answer, net, true),
         ("turn_count", []) => finished(answer, net, false),
@@ -46,7 +46,7 @@ fn put_sense(answer: &mut Answer, first: &Value, x: &Value, w: &Value) {
     match word(answer, first) {
         "outward" => answer.put(&sense(First::Outward, x, w)),
         "inward" => answer.put(&sense(First::Inward, x, w)),
-        _ => answer.refuse(),
+        _ => answer.note_no_case(),
     }
 }
 
@@ -76,7 +76,7 @@ fn finished(answer: &mut Answer, net: &Net, with_counts: bool) {
                 answer.put(&turns.counts());
             }
         }
-        _ => answer.refuse(),
+        _ => answer.note_no_case(),
     }
 }
 
@@ -84,7 +84,7 @@ fn finished(answer: &mut Answer, net: &Net, with_counts: bool) {
 fn finished_counts(answer: &mut Answer, net: &Net, given: &Value) {
     let mut counts = counts(answer, given);
     if !is_lawful(net, 0, &counts) {
-        return answer.refuse();
+        return answer.note_no_case();
     }
     answer.put(&finish(net, 0, &mut counts));
     answer.say(" ");
@@ -109,7 +109,7 @@ fn take(answer: &mut Answer, net: &Net, turns: &mut Turns, step: &Value) {
     match items(answer, step) {
         [asked] => tell_or_clear(answer, turns, asked),
         [asked, dest, from] => go_on(answer, net, turns, asked, dest, from),
-        _ => answer.refuse(),
+        _ => answer.note_no_case(),
     }
 }
 
@@ -125,7 +125,7 @@ fn tell_or_clear(answer: &mut Answer, turns: &mut Turns, asked: &Value) {
             answer.put(&turns.total());
         }
         "clear" => turns.clear(),
-        _ => answer.refuse(),
+        _ => answer.note_no_case(),
     }
 }
 
@@ -141,7 +141,7 @@ fn go_on(
     let dest = number(answer, dest);
     let from = numbers(answer, from);
     if !is_lawful(net, dest, turns.counts()) || !hold_all(net, dest, turns.counts(), &from) {
-        return answer.refuse();
+        return answer.note_no_case();
     }
     answer.comma();
     match word(answer, asked) {
@@ -151,7 +151,7 @@ fn go_on(
         } else {
             "gave up, "
         }),
-        _ => answer.refuse(),
+        _ => answer.note_no_case(),
     }
     tell_state(answer, net, dest, turns.counts());
 }
@@ -220,7 +220,7 @@ fn is_among(list: &[u32], x: u32) -> bool
 fn sinks(answer: &mut Answer, net: &Net, given: &Value) {
     let counts = counts(answer, given);
     if !is_lawful(net, 0, &counts) {
-        return answer.refuse();
+        return answer.note_no_case();
     }
     for x in 0..net.nodes() {
         if is_sink(net, &counts, x) {

@@ -8,7 +8,7 @@ use serde_json::Value;
 
 /// Answers the counts that a history leads to, or its first entry that is not legal. Returns whether that is the
 /// question.
-pub fn answer_about(answer: &mut Answer, net: &Net, asked: &str, given: &[Value]) -> bool {
+pub fn answer_case(answer: &mut Answer, net: &Net, asked: &str, given: &[Value]) -> bool {
     match (asked, given) {
         ("history", [dest, entries]) => history(answer, net, dest, entries),
         _ => return false,
@@ -40,7 +40,7 @@ fn push(answer: &mut Answer, entries: &mut Vec<Entry>, given: &Value) {
             });
             answer.note(pushed.is_ok());
         }
-        _ => answer.refuse(),
+        _ => answer.note_no_case(),
     }
 }
 
@@ -61,7 +61,7 @@ fn reply(answer: &mut Answer, named: &Value, numbers: &[Value]) -> Reply {
         }
         ("cut", []) => return Reply::Cut,
         ("sink", []) => {}
-        _ => answer.refuse(),
+        _ => answer.note_no_case(),
     }
     Reply::Sink
 }

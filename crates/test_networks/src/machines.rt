@@ -12,7 +12,7 @@ use std::alloc::Global;
 
 /// Answers a question about a machine on a network, with its destination, the targets of each worker, and the worker of
 /// each step. Returns whether it is such a question.
-pub fn answer_about(answer: &mut Answer, net: &Net, asked: &str, given: &[Value]) -> bool {
+pub fn answer_case(answer: &mut Answer, net: &Net, asked: &str, given: &[Value]) -> bool {
     match (asked, given) {
         ("play", [dest, targets, order]) => played(answer, net, dest, targets, order),
         ("by_hand", [dest, targets, order]) => by_hand(answer, net, dest, targets, order),
@@ -48,7 +48,7 @@ fn push(answer: &mut Answer, targets: &mut Vec<Target>, given: &Value) {
             let target = target_of(answer, named, x);
             answer.note(targets.push(target).is_ok());
         }
-        _ => answer.refuse(),
+        _ => answer.note_no_case(),
     }
 }
 
@@ -58,7 +58,7 @@ fn target_of(answer: &mut Answer, named: &Value, x: &Value) -> Target {
     match word(answer, named) {
         "turn" => return Target::Turn(x),
         "look" => {}
-        _ => answer.refuse(),
+        _ => answer.note_no_case(),
     }
     Target::Look(x)
 }

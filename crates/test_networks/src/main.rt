@@ -41,7 +41,7 @@ fn tell<R: Alloc<A = Global> + Print>(rt: &R, line: &str) -> io::Result<()> {
     let mut answer = Answer::new(rt.alloc());
     match Value::from_str(rt.alloc(), line) {
         Ok(case) => answer_case(&mut answer, &case),
-        Err(_) => answer.refuse(),
+        Err(_) => answer.note_no_case(),
     }
     rt.print("  ")?;
     rt.println(answer.text())
@@ -54,7 +54,7 @@ fn answer_case(answer: &mut Answer, case: &Value) {
             let asked = word(answer, asked);
             answer_word(answer, asked, given);
         }
-        [] => answer.refuse(),
+        [] => answer.note_no_case(),
     }
 }
 
@@ -70,21 +70,21 @@ fn answer_word(answer: &mut Answer, asked: &str, given: &[Value]) {
     match given {
         _ if is_known => {}
         [nodes, links, given @ ..] => match network(answer, nodes, links) {
-            Ok(net) => answer_about(answer, net, asked, given),
+            Ok(net) => answer_case(answer, net, asked, given),
             Err(fault) => tell_fault(answer, fault),
         },
-        _ => answer.refuse(),
+        _ => answer.note_no_case(),
     }
 }
 
 /// Answers the question of a word about a network.
-fn answer_about(answer: &mut Answer, mut net: Net, asked: &str, given: &[Value]) {
-    let is_known = networks::answer_about(answer, &net, asked, given)
-        || finishing::answer_about(answer, &net, asked, given)
-        || machines::answer_about(answer, &net, asked, given)
-        || histories::answer_about(answer, &net, asked, given)
-        || edits::answer_about(answer, &mut net, asked, given);
+fn answer_case(answer: &mut Answer, mut net: Net, asked: &str, given: &[Value]) {
+    let is_known = networks::answer_case(answer, &net, asked, given)
+        || finishing::answer_case(answer, &net, asked, given)
+        || machines::answer_case(answer, &net, asked, given)
+        || histories::answer_case(answer, &net, asked, given)
+        || edits::answer_case(answer, &mut net, asked, given);
     if !is_known {
-        answer.refuse();
+        answer.note_no_case();
     }
 }

@@ -22,7 +22,7 @@ pub fn answer(answer: &mut Answer, asked: &str, given: &[Value]) -> bool {
 }
 
 /// Answers a question about a network. Returns whether it is such a question.
-pub fn answer_about(answer: &mut Answer, net: &Net, asked: &str, given: &[Value]) -> bool {
+pub fn answer_case(answer: &mut Answer, net: &Net, asked: &str, given: &[Value]) -> bool {
     match (asked, given) {
         ("rows", []) => rows(answer, net),
         ("copied", []) => copied(answer, net),
@@ -177,7 +177,7 @@ fn turned_if_kept(answer: &mut Answer, net: Net, counts: Vec<u64>) {
         Ok(listed) if counts.len() == net.nodes() as usize && are_kept(&listed, &counts) => {
             tell_turned(answer, net, counts)
         }
-        _ => answer.refuse(),
+        _ => answer.note_no_case(),
     }
 }
 

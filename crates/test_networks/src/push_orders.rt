@@ -59,7 +59,7 @@ fn pushed(answer: &mut Answer, old: &Value, new: &Value, order: &Value) {
 
 fn push(answer: &mut Answer, table: &mut [Hop], new: &[Hop], x: usize) {
     if x >= table.len() || x >= new.len() {
-        return answer.refuse();
+        return answer.note_no_case();
     }
     table[x] = new[x];
     answer.comma();

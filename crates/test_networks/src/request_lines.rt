@@ -43,7 +43,7 @@ fn byte(answer: &mut Answer, value: &Value) -> u8 {
     if byte < 256 {
         return byte as u8;
     }
-    answer.refuse();
+    answer.note_no_case();
     0
 }
 

@@ -18,7 +18,7 @@ pub fn answer(answer: &mut Answer, asked: &str, given: &[Value]) -> bool {
 /// A table for so many nodes in which none has turned.
 pub fn none(answer: &mut Answer, nodes: u32) -> Option<Turns> {
     if nodes > MAX_NODES {
-        answer.refuse();
+        answer.note_no_case();
         return None;
     }
     let turns = Turns::none(answer.alloc, nodes).ok();
@@ -45,7 +45,7 @@ fn take(answer: &mut Answer, turns: &mut Turns, step: &Value) {
     match items(answer, step) {
         [asked] => tell_or_clear(answer, turns, asked),
         [asked, given] => change(answer, turns, asked, given),
-        _ => answer.refuse(),
+        _ => answer.note_no_case(),
     }
 }
 
@@ -53,7 +53,7 @@ fn tell_or_clear(answer: &mut Answer, turns: &mut Turns, asked: &Value) {
     match word(answer, asked) {
         "tell" => tell(answer, turns),
         "clear" => turns.clear(),
-        _ => answer.refuse(),
+        _ => answer.note_no_case(),
     }
 }
 
@@ -73,7 +73,7 @@ fn change(answer: &mut Answer, turns: &mut Turns, asked: &Value, given: &Value) 
         "add" => add(answer, turns, given),
         "each" => set_each(answer, turns, given),
         "copy" => copy(answer, turns, given),
-        _ => answer.refuse(),
+        _ => answer.note_no_case(),
     }
 }
 
@@ -81,7 +81,7 @@ fn add(answer: &mut Answer, turns: &mut Turns, given: &Value) {
     let x = number(answer, given);
     let counts = turns.counts();
     if x as usize >= counts.len() || counts[x as usize] == u64::MAX {
-        return answer.refuse();
+        return answer.note_no_case();
     }
     turns.add(x);
 }
@@ -89,7 +89,7 @@ fn add(answer: &mut Answer, turns: &mut Turns, given: &Value) {
 fn set_each(answer: &mut Answer, turns: &mut Turns, given: &Value) {
     let count = count(answer, given);
     if count == 0 {
-        return answer.refuse();
+        return answer.note_no_case();
     }
     turns.set_each(count);
 }
@@ -97,7 +97,7 @@ fn set_each(answer: &mut Answer, turns: &mut Turns, given: &Value) {
 fn copy(answer: &mut Answer, turns: &mut Turns, given: &Value) {
     let counts = counts(answer, given);
     if counts.len() != turns.counts().len() {
-        return answer.refuse();
+        return answer.note_no_case();
     }
     turns.copy_from(&counts);
 }
@@ -106,7 +106,7 @@ fn copy(answer: &mut Answer, turns: &mut Turns, given: &Value) {
 fn turns_of(answer: &mut Answer, given: &Value) {
     let counts = counts(answer, given);
     if counts.len() > MAX_NODES as usize {
-        return answer.refuse();
+        return answer.note_no_case();
     }
     match Turns::of(answer.alloc, counts) {
         Ok(turns) => answer.put(&turns.into_counts()),

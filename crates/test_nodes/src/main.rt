@@ -26,7 +26,7 @@ use kinds::{Kind, Promise};
 use rest::{PATIENCE, Rests};
 use std::alloc::Global;
 use std::io;
-use world::{Found, World};
+use world::{Findings, World};
 
 /// What routers of each kind keep, and what they do not.
 const KEPT: [(Kind, Promise); 5] = [
@@ -90,7 +90,7 @@ fn tell_steps<R: Alloc<A = Global> + Print>(rt: &R, steps: u32, choice: u32) -> 
     };
     match draw_steps(rt.alloc(), policy, steps) {
         Ok(found) => {
-            let Found {
+            let Findings {
                 steps,
                 heard,
                 events,
@@ -109,8 +109,8 @@ fn tell_steps<R: Alloc<A = Global> + Print>(rt: &R, steps: u32, choice: u32) -> 
 }
 
 /// Draws so many steps, in worlds of four and five routers with one or two gateways or none.
-fn draw_steps(alloc: Global, policy: Policy, steps: u32) -> Result<Found, NodeFault> {
-    let mut all = Found::default();
+fn draw_steps(alloc: Global, policy: Policy, steps: u32) -> Result<Findings, NodeFault> {
+    let mut all = Findings::default();
     for world in 0..6u32 {
         let mut world = World::new(
             alloc,
@@ -143,7 +143,7 @@ fn tell_kept<R: Alloc<A = Global> + Print>(
                 longer,
                 above,
             } = rests;
-            let Found {
+            let Findings {
                 lost,
                 differ,
                 loops,

@@ -4,7 +4,7 @@
 use crate::draws::Draws;
 use crate::kinds::{Kind, Promise};
 use crate::links::{Links, is_set, routers_where};
-use crate::world::{Found, MOST_ROUTERS, Seen, World};
+use crate::world::{Findings, MOST_ROUTERS, Seen, World};
 use fr_node::{CUT_OFF, NodeFault};
 use std::alloc::Global;
 
@@ -20,7 +20,7 @@ pub const PATIENCE: u32 = 3;
 /// What came of histories.
 #[derive(Clone, Copy, Default)]
 pub struct Rests {
-    pub found: Found,
+    pub found: Findings,
     /// How many routers that are no gateways were connected to one.
     pub joined: u32,
     /// Histories in which connected routers still changed after `MOST_ROUNDS`.

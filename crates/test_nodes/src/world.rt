@@ -42,7 +42,7 @@ impl Both {
 
 /// What was found so far.
 #[derive(Clone, Copy, Default)]
-pub struct Found {
+pub struct Findings {
     pub steps: u32,
     pub heard: u32,
     pub events: u32,
@@ -54,10 +54,10 @@ pub struct Found {
     pub loops: u32,
 }
 
-impl Found {
+impl Findings {
     /// Both together.
-    pub fn and(self, other: Found) -> Found {
-        Found {
+    pub fn and(self, other: Findings) -> Findings {
+        Findings {
             steps: self.steps.wrapping_add(other.steps),
             heard: self.heard.wrapping_add(other.heard),
             events: self.events.wrapping_add(other.events),
@@ -89,7 +89,7 @@ pub struct World {
     routers: Vec<Both>,
     pool: Vec<Message>,
     draws: Draws,
-    found: Found,
+    found: Findings,
 }
 
 impl World {
@@ -117,7 +117,7 @@ impl World {
             routers: all,
             pool: Vec::new(alloc),
             draws,
-            found: Found::default(),
+            found: Findings::default(),
         })
     }
 
@@ -163,7 +163,7 @@ impl World {
         &mut self.draws
     }
 
-    pub fn found(&self) -> Found {
+    pub fn found(&self) -> Findings {
         self.found
     }
 

@@ -293,7 +293,7 @@ impl Gate for ListeningGate {
 
 /// `["told", nodes, destination, links, workers, budget]`: whether the gate was called for each worker in order, before
 /// and after each call; for one worker also how many calls there were.
-pub fn told<R: Threads + Wait + Sync + Alloc<A = Global>>(
+pub fn gate_in_order<R: Threads + Wait + Sync + Alloc<A = Global>>(
     rt: &R,
     text: &mut Answer,
     asked: &[Value],

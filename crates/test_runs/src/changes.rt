@@ -79,7 +79,7 @@ fn changes_as_opened(
     let Ok(before) = router.all_ways(alloc) else {
         return false;
     };
-    let end = router.change_telling_ways_alone(alloc, change, reroutes);
+    let end = router.change_with_ways_alone(alloc, change, reroutes);
     end.is_ok() == anew.is_some()
         && state_text(alloc, router) == wanted
         && (end.is_err() || lists_pushes_from(alloc, router, &before, reroutes))

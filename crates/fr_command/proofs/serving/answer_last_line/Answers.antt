@@ -20,5 +20,5 @@ returns-in_err-flush-clause-fault g c =
     let why = IsLineFault talk.form (point_of talk) talk.begun old.written new.written in
     let exit = c.from_residual-in_err-flush in
     handed_on exit.result c.in_err-flush.field-0.0 why exit.ensures.1 (subst why (sym c.in_err-flush.ensures.kind)
-    (ends_begun talk c.finish.new.self text text old.written new.written c.in_ok-answer.ensures.ends
+    (ends_begun talk c.end_line.new.self text text old.written new.written c.in_ok-answer.ensures.ends
     ([], sym (append-nil text)) written))

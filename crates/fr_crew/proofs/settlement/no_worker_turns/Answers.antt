@@ -1,5 +1,5 @@
 use Rattle.std.proofs.Common.{ℕ, refl, rules, ◌≡◌}
-use Rattle.fr_round.proofs.Keeping.{each_snoc}
+use Rattle.fr_round.proofs.StepsKeepTheRule.{each_snoc}
 use Rattle.fr_crew.proofs.Turners.{numbered_next}
 use Rattle.fr_crew.proofs.settlement.no_worker_turns.Goals as goal
 

@@ -1,7 +1,7 @@
 use Rattle.std.proofs.Common.{[], subst}
 use Rattle.std.specs.List.{AllByRecursion as Each}
 use Rattle.fr_round.proofs.Gathering.{each_in}
-use Rattle.fr_round.proofs.Keeping.{each_snoc}
+use Rattle.fr_round.proofs.StepsKeepTheRule.{each_snoc}
 use Rattle.fr_crew.specs.Crews.{IsDone, IsOwnMember, shift}
 use Rattle.fr_crew.proofs.Workers.{worked_done}
 use Rattle.fr_crew.proofs.threads.run_each_in_rooms.Goals as goal

@@ -1,6 +1,6 @@
 use Rattle.std.proofs.Common.{rules, subst, sym, ap, ◌∙◌}
 use Rattle.std.specs.List.{AllByRecursion as Each}
-use Rattle.fr_round.proofs.Keeping.{each_snoc}
+use Rattle.fr_round.proofs.StepsKeepTheRule.{each_snoc}
 use Rattle.fr_crew.specs.Crews.{IsNew, IsOwnMember, IsOwnThread, shift}
 use Rattle.fr_crew.proofs.threads.start_each.Goals as goal
 

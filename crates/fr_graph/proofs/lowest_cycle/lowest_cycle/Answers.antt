@@ -2,8 +2,8 @@ use Rattle.std.proofs.Common.{arith, length, sym, ◌+◌, ◌-◌, ◌∙◌, �
 use Rattle.std.proofs.lemmas.List.{length-map}
 use Rattle.std.proofs.lemmas.Result.{IfOk-weaker}
 use Rattle.fr_graph.proofs.LowestPaths.{descent_begins, descent_ends}
-use Rattle.fr_graph.specs.CycleSearch.{nodes_of}
-use Rattle.fr_graph.specs.declared.cycle.Step.{Step}
+use Rattle.fr_graph.specs.Descents.{nodes_of}
+use Rattle.fr_graph.specs.declared.lowest_cycle.Step.{Step}
 use Rattle.fr_graph.proofs.lowest_cycle.lowest_cycle.Goals as goal
 
 pub loop-descent-init : goal.loop-descent-init

@@ -2,7 +2,7 @@ use Rattle.std.proofs.Common.{List, subst, sym, ◌∙◌}
 use Rattle.std.specs.List.{AllByRecursion as Each}
 use Rattle.fr_round.specs.Closing.{Closes}
 use Rattle.fr_round.specs.Knowledge.{IsOwn, Knowledge}
-use Rattle.fr_round.proofs.Keeping.{each_mapped}
+use Rattle.fr_round.proofs.StepsKeepTheRule.{each_mapped}
 use Rattle.fr_logs.specs.Logged.{IsOwnRecorder}
 use Rattle.fr_logs.specs.Recording.{Recording}
 use Rattle.fr_logs.proofs.Parting.{logs_are}

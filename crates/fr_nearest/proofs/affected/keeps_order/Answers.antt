@@ -5,7 +5,7 @@ use Rattle.fr_nearest.specs.Distances.{no_distance}
 use Rattle.fr_nearest.specs.Marks.{IsAlikeAt}
 use Rattle.fr_nearest.specs.Update.{HoldTo}
 use Rattle.fr_nearest.proofs.Entries.{entry_inside, hold_more}
-use Rattle.fr_nearest.proofs.Keeping.{stays_by}
+use Rattle.fr_nearest.proofs.UnlistedNodes.{stays_by}
 use Rattle.fr_nearest.proofs.affected.keeps_order.Goals as goal
 use Rattle.fr_nearest.proofs.affected.keeps_order.Goals.{else-eq-via-then-eq+else-not-has_same_order, else-eq-via-else-eq}
 

@@ -1,7 +1,7 @@
 use Rattle.std.proofs.Common.{arith, subst, List, ℕ}
 use Rattle.std.proofs.lemmas.List.{take_all}
 use Rattle.fr_nearest.specs.Changes.{IsTakenOver}
-use Rattle.fr_nearest.proofs.Noting.{taken_more, taken_none}
+use Rattle.fr_nearest.proofs.NotedNodes.{taken_more, taken_none}
 use Rattle.fr_nearest.proofs.distance_changes.copy_and_unmark.Goals as goal
 
 pub loop-x-init : goal.loop-x-init

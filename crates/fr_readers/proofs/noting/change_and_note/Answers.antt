@@ -5,7 +5,7 @@ use Rattle.fr_readers.proofs.noting.change_and_note.Goals as goal
 pub push_nodes-requires : goal.push_nodes-requires
 push_nodes-requires c =
     let r = c.args.router.now in
-    let changed = c.change_telling_ways_alone in
+    let changed = c.change_with_ways_alone in
     let nodes : List ℕ = changed.new.reroutes.nodes in
     let short : length nodes ≤ r.nodes =
     rerouted_short r c.args.change changed.new.self nodes c.in_ok-report.ensures.changed

@@ -1,9 +1,8 @@
 use Rattle.std.proofs.Common.{rules, ap, arith, length, slice_get, sym, Some, ◌≡◌, ◌∙◌, ◌≤◌, ◌<◌, ℕ, IsTrue, ◌↔◌}
 use Rattle.std.proofs.lemmas.Option.{same_Some, slice_get-get_or, slice_get_past}
-use Rattle.fr_shared.specs.Histories.{padded}
-use Rattle.fr_shared.specs.Knowledge.{last_table}
+use Rattle.fr_shared.specs.HopTables.{hop_codec, last_hops, padded}
 use Rattle.fr_shared.proofs.Histories.{last_is_table}
-use Rattle.fr_shared.proofs.Padding.{padded_hop, padded_length}
+use Rattle.fr_shared.proofs.HopPadding.{padded_hop, padded_length}
 use Rattle.fr_tables.specs.declared.hop.Hop.TheVariants.{Here}
 use Rattle.fr_readers.proofs.publishing.has_hop.Goals as goal
 
@@ -12,8 +11,8 @@ returns-then-x-nodes-clause-same c =
     let k = c.args.publisher.now in
     let x : ℕ = c.args.x in
     let out : k.nodes ≤ x = search rules in
-    let table = last_is_table k.nodes k.known c.history_law.ensures in
-    let same = slice_get_past (last_table k) x (omega (arith, out, table.one_each))
+    let table = last_is_table hop_codec k.nodes k.known c.history_law.ensures in
+    let same = slice_get_past (last_hops k) x (omega (arith, out, table.one_each))
     ∙ sym (slice_get_past (padded k.nodes c.args.hops.now) x (omega (
       arith,
       out,

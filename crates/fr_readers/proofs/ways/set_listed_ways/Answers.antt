@@ -8,16 +8,16 @@ use Rattle.fr_readers.proofs.Altered.{set_others}
 use Rattle.fr_readers.proofs.FirstWays.{set_each, ways_low}
 use Rattle.fr_readers.proofs.ways.set_listed_ways.Goals as goal
 
-pub ways_in-count-requires-clause-node : goal.ways_in-count-requires-clause-node
-ways_in-count-requires-clause-node c =
+pub write_ways-count-requires-clause-node : goal.write_ways-count-requires-clause-node
+write_ways-count-requires-clause-node c =
     omega (
       arith,
       c.requires.nodes c.loop-x.x-index 0 c.loop-x-test.true,
       ap (λ (s : State). s.nodes) c.loop-x.invariant.same,
     )
 
-pub ways_in-count-requires-clause-space : goal.ways_in-count-requires-clause-space
-ways_in-count-requires-clause-space c =
+pub write_ways-count-requires-clause-space : goal.write_ways-count-requires-clause-space
+write_ways-count-requires-clause-space c =
     omega (
       arith,
       c.loop-x.invariant.space,
@@ -38,9 +38,9 @@ pub set-requires-clause-low : goal.set-requires-clause-low
 set-requires-clause-low c =
     let s = c.args.router.now in
     let x : ℕ = get_or c.args.nodes.now c.loop-x.x-index 0 in
-    let list : List ℕ = take c.ways_in-count.result c.ways_in-count.new.space in
+    let list : List ℕ = take c.write_ways-count.result c.write_ways-count.new.space in
     let are : AreNodeWays s x list =
-    subst (λ (r : State). AreNodeWays r x list) c.loop-x.invariant.same c.ways_in-count.ensures.ways in
+    subst (λ (r : State). AreNodeWays r x list) c.loop-x.invariant.same c.write_ways-count.ensures.ways in
     ways_low s c.requires.settled x list are
 
 pub loop-x-preserved : goal.loop-x-preserved
@@ -51,15 +51,15 @@ loop-x-preserved c =
     let i : ℕ = c.loop-x.x-index in
     let x : ℕ = get_or nodes i 0 in
     let wanted = c.loop-x.wanted in
-    let list : List ℕ = take c.ways_in-count.result c.ways_in-count.new.space in
+    let list : List ℕ = take c.write_ways-count.result c.write_ways-count.new.space in
     let are : AreNodeWays s x list =
-    subst (λ (r : State). AreNodeWays r x list) inv.same c.ways_in-count.ensures.ways in
+    subst (λ (r : State). AreNodeWays r x list) inv.same c.write_ways-count.ensures.ways in
     let inside : i < length nodes = c.loop-x-test.true in
     let low : x < length wanted = omega (arith, c.requires.nodes i 0 inside, inv.long, c.requires.settled.few) in
     record {
-      same = c.ways_in-count.ensures.same ∙ inv.same;
+      same = c.write_ways-count.ensures.same ∙ inv.same;
       long = ap length c.set.ensures ∙ (length-set wanted x (take 5 list) ∙ inv.long);
-      space = c.ways_in-count.ensures.length ∙ inv.space;
+      space = c.write_ways-count.ensures.length ∙ inv.space;
       each = subst (λ (t : List (List ℕ)). (k : ℕ) → k < i + 1
           → (l : List ℕ) × AreNodeWays s (get_or nodes k 0) l × (ways t (get_or nodes k 0) ≡ take 5 l))
           (sym c.set.ensures) (set_each (AreNodeWays s) (λ (k : ℕ). get_or nodes k 0) i wanted list low inv.each are);

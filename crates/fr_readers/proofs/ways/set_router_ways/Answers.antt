@@ -8,9 +8,9 @@ use Rattle.fr_readers.proofs.ways.set_router_ways.Goals as goal
 pub set-requires-clause-low : goal.set-requires-clause-low
 set-requires-clause-low c =
     let s = c.args.router.now in
-    let list : List ℕ = take c.ways_in-count.result c.ways_in-count.new.space in
+    let list : List ℕ = take c.write_ways-count.result c.write_ways-count.new.space in
     let are : AreNodeWays s c.loop-x.x list =
-    subst (λ (r : State). AreNodeWays r c.loop-x.x list) c.loop-x.invariant.same c.ways_in-count.ensures.ways in
+    subst (λ (r : State). AreNodeWays r c.loop-x.x list) c.loop-x.invariant.same c.write_ways-count.ensures.ways in
     ways_low s c.requires.settled c.loop-x.x list are
 
 pub loop-x-preserved : goal.loop-x-preserved
@@ -19,15 +19,15 @@ loop-x-preserved c =
     let s = c.args.router.now in
     let x : ℕ = c.loop-x.x in
     let wanted = c.loop-x.wanted in
-    let list : List ℕ = take c.ways_in-count.result c.ways_in-count.new.space in
+    let list : List ℕ = take c.write_ways-count.result c.write_ways-count.new.space in
     let are : AreNodeWays s x list =
-    subst (λ (r : State). AreNodeWays r x list) inv.same c.ways_in-count.ensures.ways in
+    subst (λ (r : State). AreNodeWays r x list) inv.same c.write_ways-count.ensures.ways in
     let below : x < s.nodes = omega (arith, c.loop-x-test.true, c.nodes-x-end.ensures.value, c.net.ensures.nodes) in
     let low : x < length wanted = omega (arith, below, inv.long, c.requires.settled.few) in
     record {
-      same = c.ways_in-count.ensures.same ∙ inv.same;
+      same = c.write_ways-count.ensures.same ∙ inv.same;
       long = ap length c.set.ensures ∙ (length-set wanted x (take 5 list) ∙ inv.long);
-      space = c.ways_in-count.ensures.length ∙ inv.space;
+      space = c.write_ways-count.ensures.length ∙ inv.space;
       low = omega (arith, below);
       each = subst
           (λ (t : List (List ℕ)). (y : ℕ) → y < x + 1 → (l : List ℕ) × AreNodeWays s y l × (ways t y ≡ take 5 l))

@@ -7,7 +7,7 @@ use mathlib.Core.Option.{none}
 use Rattle.atomic_table.specs.Table.{step}
 use Rattle.fr_round.specs.Steps.{neighbour_loaded}
 use Rattle.fr_round.specs.Setups.{setup_of}
-use Rattle.fr_round.proofs.Keeping.{allowed, loads_along_at, loads_against_at}
+use Rattle.fr_round.proofs.StepsKeepTheRule.{allowed, loads_along_at, loads_against_at}
 use Rattle.fr_round.proofs.turn_call.load_neighbour_count.Goals as goal
 
 pub load-requires : goal.load-requires

@@ -5,7 +5,7 @@ use Rattle.fr_route.specs.States.{State}
 use Rattle.fr_route.specs.Routes.{IsHop}
 use Rattle.fr_tables.specs.declared.hop.Hop.{Hop}
 use Rattle.fr_tables.specs.declared.hop.Hop.TheVariants.{Here}
-use Rattle.fr_route.proofs.Noting.{notes_none, notes_one}
+use Rattle.fr_route.proofs.ChangedHops.{notes_none, notes_one}
 use Rattle.fr_route.proofs.Renewing.{renewed_right}
 use Rattle.fr_route.proofs.Written.{written}
 use Rattle.fr_route.proofs.hops.renew_hop.Goals as goal

@@ -1,6 +1,6 @@
 use Rattle.fr_route.specs.Outcomes.{state_after}
 use Rattle.fr_route.specs.States.{State}
-use Rattle.fr_route.proofs.Noting.{notes_then}
+use Rattle.fr_route.proofs.ChangedHops.{notes_then}
 use Rattle.fr_route.proofs.hops.renew_hops.Goals as goal
 
 pub returns-clause-noted : goal.returns-clause-noted

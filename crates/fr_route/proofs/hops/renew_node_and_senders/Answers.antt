@@ -3,7 +3,7 @@ use Rattle.fr_core.proofs.RowLinks.{row_below}
 use Rattle.fr_graph.specs.declared.first.First.{First}
 use Rattle.fr_route.specs.Outcomes.{state_after}
 use Rattle.fr_route.specs.States.{State}
-use Rattle.fr_route.proofs.Noting.{notes_then}
+use Rattle.fr_route.proofs.ChangedHops.{notes_then}
 use Rattle.fr_route.proofs.Renewing.{NoneSends, none_left, none_more, renewed_as, renewed_then}
 use Rattle.fr_route.proofs.hops.renew_node_and_senders.Goals as goal
 

@@ -4,7 +4,7 @@ use Rattle.std.proofs.lemmas.List.{get_or_default}
 use Rattle.fr_graph.proofs.TurnedNodes.{turned_below}
 use Rattle.fr_route.specs.Outcomes.{SendsTo, state_after}
 use Rattle.fr_route.specs.States.{State}
-use Rattle.fr_route.proofs.Noting.{notes_none, notes_then}
+use Rattle.fr_route.proofs.ChangedHops.{notes_none, notes_then}
 use Rattle.fr_route.proofs.Renewing.{renewed_as, renewed_none, renewed_then}
 use Rattle.fr_route.proofs.hops.renew_turned.Goals as goal
 

@@ -7,7 +7,7 @@ use Rattle.fr_route.specs.Outcomes.{AreNoted, HoldsMoved, settled_state}
 use Rattle.fr_route.specs.Routes.{AreHops}
 use Rattle.fr_route.specs.States.{IsAfterRound, State, state_with}
 use Rattle.fr_route.proofs.CutNodes.{after_outcome}
-use Rattle.fr_route.proofs.Noting.{noted_first, others_noted}
+use Rattle.fr_route.proofs.ChangedHops.{noted_first, others_noted}
 use Rattle.fr_route.proofs.outcome.apply_outcome.Goals as goal
 use Rattle.fr_route.proofs.outcome.apply_outcome.Goals.{After-turn}
 

@@ -35,7 +35,7 @@ hops-init c =
       nodes = c.args.x ∷ [];
       walked = walk_begins c.args.router.now c.args.x c.next_hop.result c.next_hop.ensures open_hop;
       many = refl;
-      text = c.in_ok-push_number.ensures.text
+      text = c.in_ok-push_text_and_number.ensures.text
           ∙ (ap (λ (n : ℕ). string_bytes c.begin.new.line ++ (codes " " ++ decimal n)) c.from.ensures
           ∙ (ap (λ (l : List ℕ). l ++ (codes " " ++ decimal c.args.x)) c.in_ok-begin.ensures
           ∙ sym (walk_more [] c.args.x)));
@@ -67,7 +67,7 @@ hops-preserved c =
       nodes = nodes ++ c.in-To.next ∷ [];
       walked = longer (goal.at.hops-preserved c).In-To;
       many = omega (arith, length_push nodes c.in-To.next, c.hops.invariant.many);
-      text = c.in_ok-push_number-2.ensures.text
+      text = c.in_ok-push_text_and_number-2.ensures.text
           ∙ (ap (λ (n : ℕ). string_bytes c.hops.line ++ (codes " " ++ decimal n)) c.from-in-To.ensures
           ∙ (ap (λ (l : List ℕ). l ++ (codes " " ++ decimal c.in-To.next)) c.hops.invariant.text
           ∙ sym (walk_more nodes c.in-To.next)));

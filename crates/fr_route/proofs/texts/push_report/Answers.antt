@@ -6,8 +6,8 @@ pub returns-in_err-push_str-clause-short : goal.returns-in_err-push_str-clause-s
 returns-in_err-push_str-clause-short c =
     report_short c.args.report.turned c.args.report.cut (search rules) (search rules)
 
-pub returns-in_err-push_number-clause-short : goal.returns-in_err-push_number-clause-short
-returns-in_err-push_number-clause-short c =
+pub returns-in_err-push_text_and_number-clause-short : goal.returns-in_err-push_text_and_number-clause-short
+returns-in_err-push_text_and_number-clause-short c =
     report_short c.args.report.turned c.args.report.cut (search rules) (search rules)
 
 pub returns-clause-short : goal.returns-clause-short

@@ -12,12 +12,12 @@ loop-x-preserved c =
     let count = c.if-x-nodes.count in
     let list = take count c.if-x-nodes.space in
     let long : net.nodes ≤ length c.if-x-nodes.space = elim c.if-x-nodes.branch [
-      | then-x-nodes w ↦ rw (w.space-is, w.ways_in-count.ensures.same) c.loop-x.invariant.space
+      | then-x-nodes w ↦ rw (w.space-is, w.write_ways-count.ensures.same) c.loop-x.invariant.space
       | else-x-nodes w ↦ rw w.space-is c.loop-x.invariant.space
     ] in
     let here : x < net.nodes → AreWays net.links c.args.distances.now.dest x list = λ low.
     elim c.if-x-nodes.branch [
-      | then-x-nodes w ↦ rw (w.count-is, w.space-is) w.ways_in-count.ensures.ways
+      | then-x-nodes w ↦ rw (w.count-is, w.space-is) w.write_ways-count.ensures.ways
       | else-x-nodes w ↦ absurd (omega (arith, w.if-x-nodes.false, low, c.nodes.ensures.value))
     ] in
     record {

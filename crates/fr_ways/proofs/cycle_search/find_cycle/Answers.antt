@@ -1,16 +1,24 @@
-use Rattle.std.proofs.Common.{sym}
-use Rattle.fr_ways.specs.Searches.{IsBack}
-use Rattle.fr_ways.proofs.Searching.{back_cycle}
+use Rattle.std.proofs.Common.{arith, length, ◌≡◌}
+use Rattle.fr_ways.proofs.Searching.{once_round, order_free, sends_on}
+use Rattle.fr_search.specs.Heads.{IsFirstCycle, IsInOrder}
+use Rattle.fr_ways.specs.Ways.{rows_of}
 use Rattle.fr_ways.proofs.cycle_search.find_cycle.Goals as goal
 
-pub search_from_each_node-requires-clause-rest : goal.search_from_each_node-requires-clause-rest
-search_from_each_node-requires-clause-rest c =
-    c.in_ok-search.ensures c.args.table.now (sym c.len.ensures) c.requires.range
+pub find_cycle-requires : goal.find_cycle-requires
+find_cycle-requires c = record {
+  each = omega (arith, c.len.ensures);
+  below = λ x y leads. omega (arith, c.requires.range x y (sends_on c.args.table.now x y leads), c.len.ensures);
+}
 
-pub returns-in-Some : goal.returns-in-Some
-returns-in-Some c =
-    let table = c.args.table.now in
-    let path = c.search_from_each_node.new.self.path.items in
-    let back : IsBack table path c.in-Some.node = rw c.in-Some.is at c.in_ok-node.ensures.back in
-    let (k, low, is, items) = c.in_ok-path_from-in-Some.ensures in
-    rw items (back_cycle table path c.in-Some.node k back low is)
+pub returns-in-Walk : goal.returns-in-Walk
+returns-in-Walk c =
+    let walk = c.in-Walk.walk in
+    let cycle : IsFirstCycle (rows_of c.args.table.now) walk.items = rw c.in-Walk.is at c.in_ok-walk.ensures in
+    let long : length walk.items ≡ walk.len = omega (arith, walk.ok.0) in
+    rw c.pop-again.ensures.rest (rw long at (once_round c.args.table.now walk.items cycle))
+
+pub returns : goal.returns
+returns c =
+    let order = c.in-Order.field-0.items in
+    let found : IsInOrder c.len.result (rows_of c.args.table.now) order = rw c.in-Order.is at c.in_ok-walk.ensures in
+    order_free c.args.table.now order (rw c.len.ensures at found)

@@ -1,7 +1,7 @@
 use Rattle.std.proofs.Common.{ap, arith, false, get_or, length, List, ℕ, ◌++◌, ◌<◌, ◌∙◌}
 use Rattle.std.proofs.lemmas.List.Elements.{All-contains}
 use Rattle.fr_ways.specs.Phases.{is_way}
-use Rattle.fr_ways.proofs.Noting.{filter_same, noted_node}
+use Rattle.fr_ways.proofs.NotedWays.{filter_same, noted_node}
 use Rattle.fr_ways.proofs.kept_ways.copy_kept.Goals as goal
 
 pub returns-clause-kept : goal.returns-clause-kept

@@ -2,7 +2,7 @@ use Rattle.std.proofs.Common.{Contains, ap, arith, false, get_or, length, â„•, â
 use Rattle.std.specs.Prelude.{not}
 use Rattle.std.proofs.lemmas.List.Elements.{All-contains}
 use Rattle.fr_ways.specs.Phases.{is_way}
-use Rattle.fr_ways.proofs.Noting.{any_same, noted_any}
+use Rattle.fr_ways.proofs.NotedWays.{any_same, noted_any}
 use Rattle.fr_ways.proofs.kept_ways.loses_way.Goals as goal
 
 pub returns-clause-loses : goal.returns-clause-loses

@@ -1,7 +1,7 @@
 use Rattle.std.proofs.Common.{List, arith, get_or, length-set, set, subst, sym, true, ℕ, ◌∙◌}
 use Rattle.std.proofs.lemmas.List.{take_all, take_more}
 use Rattle.fr_ways.specs.Plans.{AreNoted}
-use Rattle.fr_ways.proofs.Noting.{noted_more, noted_skip}
+use Rattle.fr_ways.proofs.NotedWays.{noted_more, noted_skip}
 use Rattle.fr_ways.proofs.kept_ways.note_ways.Goals as goal
 use Rattle.fr_ways.proofs.kept_ways.note_ways.Goals.{then-y-noted, else-y-noted}
 

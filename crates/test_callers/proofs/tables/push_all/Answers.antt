@@ -66,6 +66,6 @@ returns c =
     subst (IsPushOrder c.args.table.now c.args.new.now) (sym c.deref-x-items.ensures.value) order.is_order in
     let all : take c.loop-x.x-index nodes ≡ nodes = take_all c.loop-x.x-index nodes (omega arith) in
     let same : c.loop-x.table ≡ c.args.new.now =
-    c.order_law.ensures.whole c.args.table.now c.args.new.now nodes c.loop-x.table order.tables.one_length.same is
+    c.push_order_law.ensures.whole c.args.table.now c.args.new.now nodes c.loop-x.table order.tables.one_length.same is
     (subst (λ (done : List ℕ). IsPushed c.args.table.now c.args.new.now done c.loop-x.table) all c.loop-x.invariant) in
     record { pushed = same; loop_free = subst IsLoopFree (sym same) order.loop_free; unchanged = tt }

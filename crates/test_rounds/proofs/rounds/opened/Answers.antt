@@ -1,7 +1,7 @@
 use Rattle.std.proofs.Common.{◌≡◌, ℕ, zero, suc, refl, arith}
 use Rattle.std.specs.List.{AllByRecursion as Each}
 use Rattle.fr_round.specs.Knowledge.{OpenRound, IsOwn, new_worker, new_workers}
-use Rattle.fr_round.proofs.Keeping.{each_snoc}
+use Rattle.fr_round.proofs.StepsKeepTheRule.{each_snoc}
 use Rattle.fr_crew.proofs.Workers.{as_many_as_asked}
 use Rattle.test_rounds.proofs.rounds.opened.Goals as goal
 

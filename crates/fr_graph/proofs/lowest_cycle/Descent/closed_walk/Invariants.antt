@@ -1,5 +1,5 @@
 use Rattle.std.proofs.Common.{take, ◌∷◌, ◌≡◌}
-use Rattle.fr_graph.specs.CycleSearch.{nodes_of}
+use Rattle.fr_graph.specs.Descents.{nodes_of}
 use Rattle.fr_graph.proofs.lowest_cycle.Descent.closed_walk.Given as goal
 
 abbrev pub invariant-loop-step : goal.invariant-loop-step

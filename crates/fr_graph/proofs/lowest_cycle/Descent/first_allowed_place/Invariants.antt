@@ -1,5 +1,5 @@
 use Rattle.std.proofs.Common.{slice_index_or, ℕ, ◌<◌, ◌≤◌}
-use Rattle.fr_graph.specs.CycleSearch.{LeadsOnlyTo}
+use Rattle.fr_graph.specs.Descents.{LeadsOnlyTo}
 use Rattle.fr_graph.specs.Descents.{IsSkipped}
 use Rattle.fr_graph.specs.declared.first.First.{First}
 use Rattle.fr_graph.proofs.lowest_cycle.Descent.first_allowed_place.Given as goal

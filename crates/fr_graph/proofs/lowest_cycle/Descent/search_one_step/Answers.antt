@@ -4,7 +4,7 @@ use Rattle.fr_graph.proofs.LowestPaths.{descent_goes_down, descent_leaves, has_r
 use Rattle.fr_graph.proofs.RowsRead.{read_through, read_up_to, top_is}
 use Rattle.fr_graph.proofs.ShownLinks.{rows_rise}
 use Rattle.fr_graph.proofs.SideRows.{entry_below, entry_leads}
-use Rattle.fr_graph.specs.CycleSearch.{HasRead, LeadsOnlyTo, nodes_of}
+use Rattle.fr_graph.specs.Descents.{HasRead, LeadsOnlyTo, nodes_of}
 use Rattle.fr_graph.specs.Descents.{LeadsFirst, LeadsNot, LeadsToUnmet}
 use Rattle.fr_graph.specs.KeptRows.{net_in}
 use Rattle.fr_graph.specs.Rows.{row}

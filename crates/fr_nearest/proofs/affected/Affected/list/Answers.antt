@@ -4,7 +4,7 @@ use Rattle.std.proofs.lemmas.List.Sorted.{IsNonDecreasingBy-from_sort}
 use Rattle.fr_nearest.specs.Distances.{AreChanged}
 use Rattle.fr_nearest.specs.Affected.{HasOne}
 use Rattle.fr_nearest.specs.Marks.{IsBehind, IsReordered}
-use Rattle.fr_nearest.proofs.Keeping.{affected, alike_apart, behind_change}
+use Rattle.fr_nearest.proofs.UnlistedNodes.{affected, alike_apart, behind_change}
 use Rattle.fr_nearest.proofs.Marking.{marked_then, marks_sorted}
 use Rattle.fr_nearest.proofs.affected.Affected.list.Goals as goal
 

@@ -1,6 +1,6 @@
 use Rattle.std.proofs.Common.{arith, subst, List, ℕ, ◌∙◌}
 use Rattle.std.proofs.lemmas.List.{take_all}
-use Rattle.fr_nearest.proofs.Noting.{HasNoted, all_noted, noted_more}
+use Rattle.fr_nearest.proofs.NotedNodes.{HasNoted, all_noted, noted_more}
 use Rattle.fr_nearest.proofs.distance_changes.DistanceChanges.note_changed_among.Goals as goal
 
 pub loop-x-preserved : goal.loop-x-preserved

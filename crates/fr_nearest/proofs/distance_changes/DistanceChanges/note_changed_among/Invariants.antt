@@ -1,6 +1,6 @@
 use Rattle.std.proofs.Common.{length, take, ◌≡◌, ◌≤◌}
 use Rattle.fr_nearest.specs.Changes.{AreNoted}
-use Rattle.fr_nearest.proofs.Noting.{HasNoted}
+use Rattle.fr_nearest.proofs.NotedNodes.{HasNoted}
 use Rattle.fr_nearest.proofs.distance_changes.DistanceChanges.note_changed_among.Given as goal
 
 abbrev pub invariant-loop-x : goal.invariant-loop-x

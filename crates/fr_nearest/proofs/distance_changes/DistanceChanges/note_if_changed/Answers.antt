@@ -2,7 +2,7 @@ use Rattle.std.proofs.Common.{arith, false, get_or, refl, slice_index, sym, ◌�
 use Rattle.std.proofs.lemmas.Bool.{false≢true}
 use Rattle.std.proofs.lemmas.List.{get_or_read}
 use Rattle.fr_nearest.specs.Changes.{IsNoted}
-use Rattle.fr_nearest.proofs.Noting.{notes_it}
+use Rattle.fr_nearest.proofs.NotedNodes.{notes_it}
 use Rattle.fr_nearest.proofs.distance_changes.DistanceChanges.note_if_changed.Goals as goal
 
 pub returns-then-not-index : goal.returns-then-not-index

@@ -2,7 +2,7 @@ use Rattle.std.proofs.Common.{arith, get_or, length, ◌<◌, ℕ}
 use Rattle.std.proofs.lemmas.List.{with_items_is}
 use Rattle.std.proofs.lemmas.List.Elements.{Contains-get_or}
 use Rattle.fr_nearest.specs.Changes.{IsTakenOver}
-use Rattle.fr_nearest.proofs.Noting.{forgotten}
+use Rattle.fr_nearest.proofs.NotedNodes.{forgotten}
 use Rattle.fr_nearest.proofs.distance_changes.DistanceChanges.reset.Goals as goal
 
 pub copy_and_unmark-requires-clause-nodes : goal.copy_and_unmark-requires-clause-nodes

@@ -1,6 +1,6 @@
 use Rattle.std.proofs.Common.{subst}
 use Rattle.fr_nearest.specs.Distances.{AreChanged, Measured}
-use Rattle.fr_nearest.proofs.Noting.{changed_of}
+use Rattle.fr_nearest.proofs.NotedNodes.{changed_of}
 use Rattle.fr_nearest.proofs.distances.Distances.changed.Goals as goal
 
 pub returns-clause-changed : goal.returns-clause-changed

@@ -5,7 +5,7 @@ use Rattle.fr_readers.specs.Answers.{MakesChange}
 use Rattle.fr_readers.specs.Inside.{pushes_in}
 use Rattle.fr_readers.specs.Published.{HasHopsOf, HasWaysOf, Published, WayPushes, published}
 use Rattle.fr_readers.specs.Publishing.{CanPublish, IsSettledSession, PublishesIn, PublishesWaysIn}
-use Rattle.fr_shared_ways.specs.Knowledge.{Knowledge as WayKnowledge}
+use Rattle.fr_shared.specs.WayTables.{WayKnowledge}
 use Rattle.fr_readers.proofs.FirstWays.{ways_stay}
 use Rattle.fr_readers.proofs.Leading.{can_publish}
 use Rattle.fr_readers.proofs.Telling.{change_leads, change_made, router_changed, same_pushes}

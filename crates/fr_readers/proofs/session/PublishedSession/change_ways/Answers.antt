@@ -9,7 +9,7 @@ use Rattle.fr_readers.specs.Inside.{pushes_in}
 use Rattle.fr_readers.specs.Published.{HasHopsOf, HasWaysOf, Published, WayPushes, published}
 use Rattle.fr_readers.specs.Publishing.{AlterWays, CanPublish, IsSettledSession, PublishesIn}
 use Rattle.fr_readers.specs.Publishing.{PublishesWaysIn}
-use Rattle.fr_shared_ways.specs.Knowledge.{last_table}
+use Rattle.fr_shared.specs.WayTables.{last_ways}
 use Rattle.fr_readers.proofs.Leading.{can_publish}
 use Rattle.fr_readers.proofs.Telling.{change_alters, change_leads, change_made, change_notes, same_pushes}
 use Rattle.fr_readers.proofs.session.PublishedSession.change_ways.Goals as goal
@@ -22,7 +22,7 @@ publish_changes-requires c =
     let ps : WayPushes = pushes_in a.new.reroutes in
     let had = subst (λ (s : Option State). IfSome p.ways (HasWaysOf s)) c.in_ok-router.ensures.value
     c.self.invariant.ways in
-    subst (λ (made : Bool). IfSome p.ways (λ k. MatchBool made (AlterWays (last_table k) a.new.router ps)
+    subst (λ (made : Bool). IfSome p.ways (λ k. MatchBool made (AlterWays (last_ways k) a.new.router ps)
     (HasWaysOf (Some a.new.router) k))) (sym c.is_ok.ensures.value)
     (IfSome_then p.ways had
     (λ k has. change_alters r a.new.router c.args.change a.result ps k has a.ensures.changes a.ensures.ways))

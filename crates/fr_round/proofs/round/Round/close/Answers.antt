@@ -10,7 +10,7 @@ use Rattle.fr_round.specs.Knowledge.{OpenRound, Knowledge, IsOwn}
 use Rattle.fr_round.specs.Closing.{Closes, number_and_known, number_and_turns}
 use Rattle.fr_round.specs.RoundInside.{open_round_of}
 use Rattle.fr_round.proofs.Seating.{enters, kept_enter}
-use Rattle.fr_round.proofs.Keeping.{each_weaker}
+use Rattle.fr_round.proofs.StepsKeepTheRule.{each_weaker}
 use Rattle.fr_round.proofs.Gathering.{closes}
 use Rattle.fr_round.proofs.round.Round.close.Goals as goal
 

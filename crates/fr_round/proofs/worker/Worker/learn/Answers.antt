@@ -8,7 +8,7 @@ use Rattle.fr_round.specs.Knowledge.{Knowledge, LearnsPast}
 use Rattle.fr_round.specs.WorkerInside.{knowledge_of}
 use Rattle.fr_round.proofs.SoundCalls.{learns_past, taught}
 use Rattle.fr_round.specs.Setups.{setup_of}
-use Rattle.fr_round.proofs.Keeping.{allowed, catches_up}
+use Rattle.fr_round.proofs.StepsKeepTheRule.{allowed, catches_up}
 use Rattle.fr_round.proofs.Seating.{kept_join, receives}
 use Rattle.fr_round.proofs.worker.Worker.learn.Goals as goal
 

@@ -13,7 +13,7 @@ use Rattle.fr_route.specs.Routes.{AreHops}
 use Rattle.fr_route.specs.States.{IsAfterRound, State, state_with}
 use Rattle.fr_route.proofs.CutNodes.{after_outcome}
 use Rattle.fr_route.proofs.Following.{led_on, ways_after}
-use Rattle.fr_route.proofs.Noting.{listing_has}
+use Rattle.fr_route.proofs.ChangedHops.{listing_has}
 use Rattle.fr_route.proofs.SettledHops.{settled_in_range, settled_loop_free}
 use Rattle.fr_route.proofs.WaysTold.{same_asking}
 use Rattle.fr_route.proofs.forwarding.ForwardingState.follow.Goals as goal

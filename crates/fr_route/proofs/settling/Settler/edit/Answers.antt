@@ -25,7 +25,7 @@ use Rattle.fr_route.proofs.CutNodes.{ended}
 use Rattle.fr_route.proofs.Changing.{made_nodes}
 use Rattle.fr_route.proofs.Inside.{sound_after, sound_again}
 use Rattle.fr_route.proofs.Moving.{leads_on, made_net, movable_sinks, old_distances, unmoved_hops}
-use Rattle.fr_route.proofs.Noting.{listing_has}
+use Rattle.fr_route.proofs.ChangedHops.{listing_has}
 use Rattle.fr_route.proofs.settling.Settler.edit.Given.{Over}
 use Rattle.fr_route.proofs.settling.Settler.edit.Goals as goal
 use Rattle.fr_route.proofs.settling.Settler.edit.Goals.{After-nodes-from, After-router, In_err-outcome, In_ok-outcome}

@@ -1,9 +1,5 @@
-use Rattle.std.proofs.Common.{arith}
-use Rattle.fr_shared.proofs.Keeping.{splits}
+use Rattle.fr_shared.proofs.StepsKeepTheRule.{seat_splits}
 use Rattle.fr_shared.proofs.publisher.Publisher.past.Goals as goal
 
 pub split_seat-requires : goal.split_seat-requires
-split_seat-requires c =
-    let r = c.self.inside in
-    let i = c.self.invariant in
-    rw c.deref.ensures (i.table, omega (arith, i.words, i.some), splits r.table.value.shared.key r.seat.id r.seat.me.0)
+split_seat-requires g c = rw c.deref.ensures (seat_splits g.T.Item.codec c.self.invariant)

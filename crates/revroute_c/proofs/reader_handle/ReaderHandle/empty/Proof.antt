@@ -15,7 +15,7 @@ use denote.RawPtr.{null_ptr}
 use denote.Steps.{nothing}
 use denote.Triple.Walked.{Stays, walk_of}
 use Rattle.std.proofs.raw_atomic.Walks.{proved_at, leaves}
-use Rattle.fr_shared.specs.Knowledge.{Knowledge}
+use Rattle.fr_shared.specs.HopTables.{HopKnowledge}
 use Rattle.revroute_c.specs.Readers.{no_reader}
 use Rattle.revroute_c.proofs.Owned.{word}
 use Rattle.revroute_c.proofs.ReaderHandles.{handle_in, handle_of}
@@ -29,7 +29,7 @@ empty_spec 𝓤 𝓛 𝓜 𝓡 wired =
     let H = 𝓛.H in let 𝓣 = tables 𝓤 H 𝓜 𝓡 𝓡.env in let c = clauses 𝓛 𝓜.mem 𝓡.returns in let fn = code.function in
     let hs : Stays ended.signature.params ended.kept = tt in
     proved_at 𝓛 ended hs c 𝓜 𝓡 tt #self fn (code.unfolded 𝓤 H 𝓜 𝓡 wired) (λ z are.
-    let κs = z.0.0 in let Post : Val → SProp 𝓤 = (walk_of 𝓛 ended hs c).post z in let none : Knowledge = no_reader in
+    let κs = z.0.0 in let Post : Val → SProp 𝓤 = (walk_of 𝓛 ended hs c).post z in let none : HopKnowledge = no_reader in
     qed 𝓛 ((‵ ftrue ⊛ ‵ (owns (types_at ended.signature.params κs) z.0.3 z.0.4)) ∷ raw ((c κs z.0.3).requires z.1)
     ∷ []) ∵ split ! $ move ! (1 ∷ []) $ drop ! $
     -- [the tokens (there are none); the `requires`; the locals]

@@ -37,9 +37,9 @@ use Rattle.std.specs.contracts.impls.GlobalAllocator.TheImpl.{ghosts}
 use Rattle.std.proofs.VecSteps.Shapes.{after}
 use Rattle.std.proofs.option.Made.{Some-of, none_of}
 use Rattle.std.proofs.raw_atomic.Walks.{proved, leaves}
-use Rattle.fr_shared.specs.contracts.reader.Reader.{the_row as S}
+use Rattle.revroute_c.specs.ReaderRows.{hop_reader as S}
 use Rattle.revroute_c.specs.Owning.{owned_at}
-use Rattle.fr_shared.specs.Knowledge.{Knowledge}
+use Rattle.fr_shared.specs.HopTables.{HopKnowledge}
 use Rattle.revroute_c.specs.Readers.{no_reader}
 use Rattle.revroute_c.specs.ReaderLending.{read_by, with_reader}
 use Rattle.revroute_c.proofs.Owned.{word, boxed, either_owned, not_null}
@@ -79,7 +79,7 @@ module _ {M : Type 1} {𝓤 : Ura M} (𝓛 : Logic 𝓤) (at_mem : Memory → SP
   abbrev Rest : Global → ℕ → ℕ → Fml
   Rest a x y = fsep (ghosts.dealloc_token a (bare (lone S.mir)) (block_ptr x y)) (cell (block_ptr x y))
 
-  back : (a : Global) (x y : ℕ) → h.at ≡ block_ptr x y → (w : Knowledge)
+  back : (a : Global) (x y : ℕ) → h.at ≡ block_ptr x y → (w : HopKnowledge)
       → ent 𝓤 (sep 𝓤 (sem 𝓛 ((mem S).own_at w x y)) (sem 𝓛 (Rest a x y)))
       (sem 𝓛 ((mem H').own_at (with_reader h w) b o))
   unfolding part_of

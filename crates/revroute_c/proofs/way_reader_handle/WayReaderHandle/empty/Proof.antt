@@ -15,7 +15,7 @@ use denote.RawPtr.{null_ptr}
 use denote.Steps.{nothing}
 use denote.Triple.Walked.{Stays, walk_of}
 use Rattle.std.proofs.raw_atomic.Walks.{proved_at, leaves}
-use Rattle.fr_shared_ways.specs.Knowledge.{Knowledge}
+use Rattle.fr_shared.specs.WayTables.{WayKnowledge}
 use Rattle.revroute_c.specs.WayReaders.{no_way_reader}
 use Rattle.revroute_c.proofs.Owned.{word}
 use Rattle.revroute_c.proofs.WayReaderHandles.{handle_in, handle_of}
@@ -30,7 +30,7 @@ empty_spec 𝓤 𝓛 𝓜 𝓡 wired =
     let hs : Stays ended.signature.params ended.kept = tt in
     proved_at 𝓛 ended hs c 𝓜 𝓡 tt #self fn (code.unfolded 𝓤 H 𝓜 𝓡 wired) (λ z are.
     let κs = z.0.0 in let Post : Val → SProp 𝓤 = (walk_of 𝓛 ended hs c).post z in
-    let none : Knowledge = no_way_reader in
+    let none : WayKnowledge = no_way_reader in
     qed 𝓛 ((‵ ftrue ⊛ ‵ (owns (types_at ended.signature.params κs) z.0.3 z.0.4)) ∷ raw ((c κs z.0.3).requires z.1)
     ∷ []) ∵ split ! $ move ! (1 ∷ []) $ drop ! $
     -- [the tokens (there are none); the `requires`; the locals]

@@ -28,7 +28,7 @@ use Rattle.std.specs.contracts.alloc.Global as heap
 use Rattle.std.proofs.alloc.Global.TheLaws as heap_laws
 use Rattle.std.specs.contracts.impls.GlobalAllocator.TheImpl.{ghosts}
 use Rattle.std.proofs.raw_atomic.Walks.{proved_at, leaves}
-use Rattle.fr_shared_ways.specs.contracts.reader.Reader.{the_row as S}
+use Rattle.revroute_c.specs.ReaderRows.{way_reader as S}
 use Rattle.revroute_c.proofs.Owned.{word, either_owned}
 use Rattle.revroute_c.proofs.WayReaderHandles.{handle_out}
 use Rattle.revroute_c.specs.WayReaders.{no_way_reader}

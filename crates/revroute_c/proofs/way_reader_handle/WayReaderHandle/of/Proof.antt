@@ -21,7 +21,7 @@ use Rattle.std.specs.contracts.alloc.Global as heap
 use Rattle.std.proofs.alloc.Global.TheLaws as heap_laws
 use Rattle.std.specs.contracts.impls.GlobalAllocator.TheImpl.{ghosts}
 use Rattle.std.proofs.raw_atomic.Walks.{proved_at, leaves}
-use Rattle.fr_shared_ways.specs.contracts.reader.Reader.{the_row as S}
+use Rattle.revroute_c.specs.ReaderRows.{way_reader as S}
 use Rattle.revroute_c.proofs.Owned.{word, boxed}
 use Rattle.revroute_c.proofs.WayReaderHandles.{handle_in, handle_of}
 use Rattle.revroute_c.proofs.Values.{both, BoxParts, loose_good, loose_out}

@@ -1,4 +1,0 @@
-use Rattle.fr_route.proofs.router.Router.change_telling_ways_alone.Goals as goal
-
-pub invariant_of-reroutes : goal.invariant_of-reroutes
-invariant_of-reroutes c = c.change.ensures.asks c.reroutes.invariant

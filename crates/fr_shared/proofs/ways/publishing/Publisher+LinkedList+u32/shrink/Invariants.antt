@@ -1,0 +1,13 @@
+use Rattle.std.proofs.Common.{◌≤◌}
+use Rattle.fr_ways.specs.Phases.{kept}
+use Rattle.fr_shared.specs.WayTables.{last_ways}
+use Rattle.fr_shared.specs.WayParts.{drops}
+use Rattle.fr_shared.proofs.WayPushing.{IsPushedBelow}
+use Rattle.fr_shared.proofs.ways.publishing.Publisher+LinkedList+u32.shrink.Given as goal
+
+abbrev pub invariant-loop-x : goal.invariant-loop-x
+invariant-loop-x l = record {
+  low : l.x ≤ l.fn.self.nodes;
+  pushed : IsPushedBelow l.fn.self l.self (drops l.emptied (last_ways l.fn.self) l.new)
+      (kept (last_ways l.fn.self) l.new) l.x;
+}

@@ -1,5 +1,0 @@
-use Rattle.fr_shared_ways.proofs.Histories.{blank_is_table, blank_sends}
-use Rattle.fr_shared_ways.proofs.tests.blank.Goals as goal
-
-pub returns : goal.returns
-returns c = rw c.in_ok-table.ensures (blank_is_table 8, λ y z sends. absurd (blank_sends 8 y z sends))
