@@ -237,6 +237,7 @@ impl<'a, S: Settle> Settler<'a, S> {
         line: &[u8],
         told: &mut ChangedNodes,
     ) -> Result<Option<String>, AnswerFault>
+        requires { S.can_settle self.now.settle.now }
         ensures { IsLineAnswered
             (S.never_starts self.now.settle.now) session.old line.now told.old result session.new told.new }
     {
@@ -254,6 +255,7 @@ impl<'a, S: Settle> Settler<'a, S> {
         request: &Request,
         told: &mut ChangedNodes,
     ) -> Result<String, AnswerFault>
+        requires { S.can_settle self.now.settle.now }
         ensures { IsAnswered (S.never_starts self.now.settle.now) session.old
             (Ok (plain request.now)) told.old result session.new told.new }
     {
@@ -270,6 +272,7 @@ impl<'a, S: Settle> Settler<'a, S> {
         line: Line<'_>,
         space: &mut AnswerSpace,
     ) -> Result<Option<Answer>, AnswerFault>
+        requires { S.can_settle self.now.settle.now }
         ensures { IsLineAnsweredIn (S.never_starts self.now.settle.now) form line.entry.number session.old
             line.entry.bytes.now result session.new }
     {
@@ -299,6 +302,7 @@ impl<'a, S: Settle> Settler<'a, S> {
         line: &[u8],
         space: &mut AnswerSpace,
     ) -> Result<Option<bool>, AnswerFault>
+        requires { S.can_settle self.now.settle.now }
         ensures { IsLineAnsweredIn (S.never_starts self.now.settle.now) draft.old.form draft.old.number session.old
             line.now (answered result draft.new) session.new }
     {
@@ -323,6 +327,7 @@ impl<'a, S: Settle> Settler<'a, S> {
         line: &[u8],
         space: &mut AnswerSpace,
     ) -> Result<Option<bool>, AnswerFault>
+        requires shared { S.can_settle self.now.settle.now }
         requires form { draft.old.form ≡ JsonWithWays }
         ensures { IsLineAnsweredIn (S.never_starts self.now.settle.now) JsonWithWays draft.old.number session.old
             line.now (answered result draft.new) session.new }
@@ -344,6 +349,7 @@ impl<'a, S: Settle> Settler<'a, S> {
         line: &[u8],
         told: &mut ChangedNodes,
     ) -> Result<Option<bool>, AnswerFault>
+        requires shared { S.can_settle self.now.settle.now }
         requires lists { HasList draft.old.form told.old }
         ensures { IsLineReplied
             (S.never_starts self.now.settle.now) (answer_form draft.old) session.old line.now told.old result draft.new
@@ -363,6 +369,7 @@ impl<'a, S: Settle> Settler<'a, S> {
         line: &[u8],
         told: &mut ChangedNodes,
     ) -> Result<bool, AnswerFault>
+        requires shared { S.can_settle self.now.settle.now }
         requires lists { HasList draft.old.form told.old }
         ensures { IsReplied (S.never_starts self.now.settle.now) (answer_form draft.old) session.old
             (reading line.now) told.old result draft.new session.new told.new }
@@ -383,6 +390,7 @@ impl<'a, S: Settle> Settler<'a, S> {
         request: &Request,
         told: &mut ChangedNodes,
     ) -> Result<bool, AnswerFault>
+        requires shared { S.can_settle self.now.settle.now }
         requires lists { HasList draft.old.form told.old }
         ensures { IsReplied (S.never_starts self.now.settle.now) (answer_form draft.old) session.old
             (Ok (plain request.now)) told.old result draft.new session.new told.new }
@@ -427,6 +435,7 @@ impl<'a, S: Settle> Settler<'a, S> {
         parts: Parts<'_>,
         told: &mut ChangedNodes,
     ) -> Result<bool, AnswerFault>
+        requires shared { S.can_settle self.now.settle.now }
         requires lists { HasList draft.old.form told.old }
         ensures { IsReplied (S.never_starts self.now.settle.now) (answer_form draft.old) session.old
             (Ok (new_network parts.entry.nodes parts.entry.dest parts.entry.links.now)) told.old result draft.new session.new
@@ -449,6 +458,7 @@ impl<'a, S: Settle> Settler<'a, S> {
         dest: u32,
         links: &[(u32, u32)],
     ) -> Result<Router, RouteFault>
+        requires { S.can_settle self.now.settle.now }
         ensures accepted { IfOk result (IsAccepted None (new_network nodes dest links.now)) }
         ensures refused { IfErr result (IsNewFault nodes dest links.now) }
         ensures no_start { S.never_starts self.now.settle.now → IfErr result (λ fault. fault ≢ RouteStart) }
@@ -465,6 +475,7 @@ impl<'a, S: Settle> Settler<'a, S> {
         edit: Edit,
         told: &mut ChangedNodes,
     ) -> Result<bool, AnswerFault>
+        requires shared { S.can_settle self.now.settle.now }
         requires lists { HasList draft.old.form told.old }
         ensures { IsReplied (S.never_starts self.now.settle.now) (answer_form draft.old) session.old
             (Ok (request_of_edit edit)) told.old result draft.new session.new told.new }
@@ -489,6 +500,7 @@ impl<'a, S: Settle> Settler<'a, S> {
         edits: &[Edit],
         told: &mut ChangedNodes,
     ) -> Result<bool, AnswerFault>
+        requires shared { S.can_settle self.now.settle.now }
         requires lists { HasList draft.old.form told.old }
         ensures { IsReplied (S.never_starts self.now.settle.now) (answer_form draft.old) session.old
             (Ok (make_edits edits.now)) told.old result draft.new session.new told.new }
@@ -515,6 +527,7 @@ impl<'a, S: Settle> Settler<'a, S> {
         dest: u32,
         told: &mut ChangedNodes,
     ) -> Result<bool, AnswerFault>
+        requires shared { S.can_settle self.now.settle.now }
         requires lists { HasList draft.old.form told.old }
         ensures { IsReplied (S.never_starts self.now.settle.now) (answer_form draft.old) session.old
             (Ok (move_dest dest)) told.old result draft.new session.new told.new }
@@ -541,6 +554,7 @@ impl<'a, S: Settle> Settler<'a, S> {
         draft: &mut Draft,
         told: &mut ChangedNodes,
     ) -> Result<(), NotMade>
+        requires shared { S.can_settle self.now.settle.now }
         requires lists { HasList draft.old.form told.old }
         requires node { revision.now.dest < router.old.nodes }
         ensures revised { IsRevised (S.never_starts self.now.settle.now) draft.old.form router.old revision.now told.old

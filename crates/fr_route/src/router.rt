@@ -121,6 +121,7 @@ fn ways_before(alloc: Global, before: Option<&Router>) -> Result<WayTable, Alloc
 impl<'a, S: Settle> Settler<'a, S> {
     /// Settles a network.
     pub(crate) fn open(&self, net: Net, dest: u32) -> Result<Router, RouteFault>
+        requires { S.can_settle self.now.settle.now }
         ensures opened { IfOk result (λ router. (dest < net.nodes) × IsRound net.nodes dest net.links router) }
         ensures fault { IfErr result (IsRoundFault (S.never_starts self.now.settle.now) net dest) }
     {
@@ -136,6 +137,7 @@ impl<'a, S: Settle> Settler<'a, S> {
         change: &Change,
         told: &mut ChangedNodes,
     ) -> Result<Report, NotMade>
+        requires { S.can_settle self.now.settle.now }
         ensures { IsTried (S.never_starts self.now.settle.now) (change_of router.old change.now)
             router.old told.old result router.new told.new }
     {
@@ -166,6 +168,7 @@ impl<'a, S: Settle> Settler<'a, S> {
         edit: Edit,
         told: &mut ChangedNodes,
     ) -> Result<Report, NotMade>
+        requires { S.can_settle self.now.settle.now }
         ensures { IsTried (S.never_starts self.now.settle.now) (edit_of router.old edit router.old.dest)
             router.old told.old result router.new told.new }
     {
@@ -181,6 +184,7 @@ impl<'a, S: Settle> Settler<'a, S> {
         revision: &Revision<'_>,
         told: &mut ChangedNodes,
     ) -> Result<Report, NotMade>
+        requires shared { S.can_settle self.now.settle.now }
         requires node { revision.now.dest < router.old.nodes }
         ensures { IsTried (S.never_starts self.now.settle.now) (revision_of router.old revision.now)
             router.old told.old result router.new told.new }

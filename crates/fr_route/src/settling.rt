@@ -1,6 +1,7 @@
 //! The two ways in which networks are settled: by a crew, or on the calling thread.
 
 ghost use Rattle.std.specs.Prelude.{◌≡◌, ◌≢◌, ℕ, ◌<◌, ◌≤◌, ◌⊎◌, IfOk, IfErr, OnOk, Some, length, replicate};
+ghost use Rattle.std.specs.Thread.{IsSync};
 ghost use Rattle.fr_graph.specs.Batches.{AreMade};
 ghost use Rattle.fr_graph.specs.Limits.{most_edits};
 ghost use Rattle.fr_graph.specs.Network.{Network};
@@ -26,6 +27,9 @@ pub(crate) trait Settle {
     /// What makes sure that this way never fails with `Start`.
     ghost never_starts: { Self → Type 0 };
 
+    /// What a call needs: what it shares with other threads can be shared.
+    ghost can_settle: { Self → Type 0 };
+
     /// The settled counts of a network, written to `turns`, a table in which no node has turned yet. `from`, if it is
     /// given, has each node that can turn at first.
     fn settled_turns(
@@ -35,13 +39,15 @@ pub(crate) trait Settle {
         from: Option<&[u32]>,
         turns: Turns,
     ) -> Result<Turns, CrewFault>
-        requires { CanBegin net.now dest from turns }
+        requires shared { can_settle self.now }
+        requires begin { CanBegin net.now dest from turns }
         ensures answer { IsCountAnswer net.now dest result }
         ensures no_start { never_starts self.now → IfErr result (λ fault. fault ≢ CrewStart) };
 }
 
 impl<R: Threads + Wait + Sync, G: Gate + Sync> Settle for Crew<'_, R, G> {
     ghost never_starts = { λ crew. (crew.plan.now.budget ≡ 0) ⊎ (crew.plan.now.workers ≡ 1) };
+    ghost can_settle = { λ _. IsSync R.row × IsSync G.row };
 
     fn settled_turns(
         &self,
@@ -59,6 +65,7 @@ pub(crate) struct OnCallingThread;
 
 impl Settle for OnCallingThread {
     ghost never_starts = { λ _. Unit {0} };
+    ghost can_settle = { λ _. Unit {0} };
 
     fn settled_turns(
         &self,
@@ -96,6 +103,7 @@ impl<'a, S: Settle> Settler<'a, S> {
         from: &[u32],
         turns: Turns,
     ) -> Result<Turns, CrewFault>
+        requires shared { S.can_settle self.now.settle.now }
         requires from { (dest < net.now.nodes) × HoldsSinks net.now dest from.now }
         requires none { turns ≡ replicate net.now.nodes 0 }
         ensures answer { IsCountAnswer net.now dest result }
@@ -111,6 +119,7 @@ impl<'a, S: Settle> Settler<'a, S> {
     /// The settled counts of a network whose sinks are not known. Fails with `Range` if the destination is not a node,
     /// which is tested first.
     pub(crate) fn first_counts(&self, net: &Net, dest: u32) -> Result<Turns, RouteFault>
+        requires { S.can_settle self.now.settle.now }
         ensures counted { IfOk result (IsCounted net.now.nodes dest net.now.links) }
         ensures fault { IfErr result (IsRoundFault (S.never_starts self.now.settle.now) net.now dest) }
     {
@@ -130,6 +139,7 @@ impl<'a, S: Settle> Settler<'a, S> {
         from: &[u32],
         turns: Turns,
     ) -> Result<Outcome, RouteFault>
+        requires shared { S.can_settle self.now.settle.now }
         requires from { (dest < net.now.nodes) × HoldsSinks net.now dest from.now }
         requires none { turns ≡ replicate net.now.nodes 0 }
         ensures outcome { IfOk result (IsOutcome net.now dest) }
@@ -154,6 +164,7 @@ impl<'a, S: Settle> Settler<'a, S> {
         revision: &Revision<'_>,
         from: &[u32],
     ) -> Result<Outcome, NotMade>
+        requires shared { S.can_settle self.now.settle.now }
         requires few { (revision.now.dest < net.old.nodes) × (length revision.now.edits.now ≤ most_edits) }
         requires from { (made : Network) → AreMade net.old revision.now.edits.now made
             → HoldsSinks made revision.now.dest from.now }
@@ -164,6 +175,7 @@ impl<'a, S: Settle> Settler<'a, S> {
             self.alloc,
             revision.edits,
             |made|
+                requires shared { S.can_settle self.now.settle.now }
                 requires from { (dest < made.now.nodes) × HoldsSinks made.now dest from.now }
                 ensures outcome { IfOk result (IsOutcome made.entry.now dest) }
                 ensures fault { IfErr result
