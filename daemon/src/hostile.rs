@@ -150,7 +150,7 @@ fn announced(router: u32, dice: &mut Dice) -> BTreeSet<Prefix> {
     all
 }
 
-fn told(router: u32, dice: &mut Dice) -> Settings {
+fn settings_of(router: u32, dice: &mut Dice) -> Settings {
     Settings {
         keys: keys(),
         ..settings(router, announced(router, dice), Duration::from_secs(30))
@@ -160,7 +160,7 @@ fn told(router: u32, dice: &mut Dice) -> Settings {
 /// A router that starts, with its devices.
 fn started(router: u32, session: u32, now: Duration, dice: &mut Dice) -> Machine<Willing> {
     let mut it =
-        Machine::new(told(router, dice), session, Willing, now).expect("nothing is refused");
+        Machine::new(settings_of(router, dice), session, Willing, now).expect("nothing is refused");
     it.device_is(DEVICE, "eth1", None, true, now);
     it.device_is(OTHER_DEVICE, "eth2", None, true, now);
     it
@@ -193,7 +193,7 @@ impl Target {
             for _ in 0..12 {
                 it.exchange(&mut other);
                 if dice.chance(15) {
-                    other.configure(told(2, dice), it.now);
+                    other.configure(settings_of(2, dice), it.now);
                 }
             }
         }
@@ -509,7 +509,7 @@ fn recorded_pair(dice: &mut Dice) -> (Target, Machine<Willing>) {
             target.present.clear();
         }
         if it % 20 == 10 {
-            other.configure(told(2, dice), target.now);
+            other.configure(settings_of(2, dice), target.now);
         }
         target.exchange(&mut other);
     }

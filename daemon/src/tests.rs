@@ -188,7 +188,7 @@ fn a_prefix_that_nobody_announces_is_forgotten_and_can_come_back() {
             .values()
             .all(|it| !it.destinations.contains_key(&inner)),
         "{}",
-        lab.told(inner)
+        lab.known_of(inner)
     );
     assert!(
         lab.world
@@ -225,7 +225,7 @@ fn what_was_lost_is_said_again_after_a_refused_write() {
     lab.set_ends(&[to_router_1], true, true);
     lab.run(seconds(2));
     let node = &lab.machines[&1].destinations[&own(2)].node;
-    assert_eq!(node.height(), 3, "{}", lab.told(own(2)));
+    assert_eq!(node.height(), 3, "{}", lab.known_of(own(2)));
 }
 
 /// Two neighbours start at once. No other router can tell them of a prefix that both knew, and their default routes lead to
@@ -281,7 +281,7 @@ fn a_prefix_is_not_forgotten_while_somebody_may_have_a_way() {
             .values()
             .all(|it| !it.destinations.contains_key(&inner)),
         "{}",
-        lab.told(inner)
+        lab.known_of(inner)
     );
 }
 

@@ -16,8 +16,8 @@ use Rattle.fr_graph.specs.declared.first.First.{First}
 use Rattle.fr_graph.specs.declared.first.First.TheVariants.{Inward, Outward}
 use Rattle.fr_search.specs.Heads.{AreHeadsFirst, AreRowsOf, IsFirstCycle, IsFound, IsInOrder, Leads, LeadsFirst}
 use Rattle.fr_search.specs.Heads.{head_at}
-use Rattle.fr_search.specs.declared.search.Found.{Found}
-use Rattle.fr_search.specs.declared.search.Found.TheVariants.{Order, Walk}
+use Rattle.fr_search.specs.declared.search.CycleOrOrder.{CycleOrOrder}
+use Rattle.fr_search.specs.declared.search.CycleOrOrder.TheVariants.{Order, Cycle}
 
 -- an entry with this head is that of a link to it
 entry_is : (entry : ℕ × First) (y : ℕ) → head_of entry ≡ Some y → entry ≡ (y, Outward)
@@ -205,8 +205,8 @@ rows_searched n table long below = record {
   below = λ x y (k, at). let (low, is) = entry_at table x k y (y, Outward) at in rw is at (below x k (y, Outward) low);
 }
 
-pub found_in : (n : ℕ) (table : Table) → length table.rows ≡ n → AreRowsRising table → (found : Found)
+pub found_in : (n : ℕ) (table : Table) → length table.rows ≡ n → AreRowsRising table → (found : CycleOrOrder)
     → IsFound n (head_rows table) found → IsFoundIn n (net_in table).links found
-found_in n table long rising (Walk walk) cycle =
+found_in n table long rising (Cycle walk) cycle =
     (closes table walk.items cycle, lowest table walk.items rising cycle)
 found_in n table long rising (Order order) all = ordered n table order.items long all

@@ -8,8 +8,8 @@ use Rattle.fr_graph.specs.Tables.{Table, row_of}
 use Rattle.fr_graph.specs.declared.first.First.{First}
 use Rattle.fr_graph.specs.declared.first.First.TheVariants.{Inward, Outward}
 use Rattle.fr_search.specs.Heads.{HeadRows}
-use Rattle.fr_search.specs.declared.search.Found.{Found}
-use Rattle.fr_search.specs.declared.search.Found.TheVariants.{Walk, Order}
+use Rattle.fr_search.specs.declared.search.CycleOrOrder.{CycleOrOrder}
+use Rattle.fr_search.specs.declared.search.CycleOrOrder.TheVariants.{Cycle, Order}
 
 -- the neighbour, if the link leads to it
 abbrev pub if_outward : ℕ → First → Option ℕ
@@ -33,6 +33,6 @@ abbrev pub AreRowsRising : Table → Type 0
 AreRowsRising rows = (x : ℕ) → AllPairs (λ (e f : ℕ × First). e.0 < f.0) (row_of rows x)
 
 -- what the search of n nodes finds: the lowest cycle or an order
-abbrev pub IsFoundIn : ℕ → List (ℕ × ℕ) → Found → Type 0
-IsFoundIn n links (Walk walk) = IsCycle links walk.items × IsLowestCycle links walk.items
+abbrev pub IsFoundIn : ℕ → List (ℕ × ℕ) → CycleOrOrder → Type 0
+IsFoundIn n links (Cycle walk) = IsCycle links walk.items × IsLowestCycle links walk.items
 IsFoundIn n links (Order order) = IsAcyclic links × HasHeadsFirst n links order.items

@@ -7,7 +7,7 @@ ghost use Rattle.fr_graph.specs.KeptRows.{net_in};
 
 use crate::first::First;
 use crate::row_table::RowTable;
-use fr_search::{Found, Rows};
+use fr_search::{CycleOrOrder, Rows};
 use std::alloc::{AllocError, Global};
 
 impl Rows for RowTable {
@@ -31,7 +31,11 @@ impl Rows for RowTable {
 
 /// Finds the lowest cycle of the links that these rows show, or an order of the nodes that lists the head of each link
 /// before its tail.
-pub(crate) fn find_cycle(alloc: Global, nodes: u32, rows: &RowTable) -> Result<Found, AllocError>
+pub(crate) fn find_cycle(
+    alloc: Global,
+    nodes: u32,
+    rows: &RowTable,
+) -> Result<CycleOrOrder, AllocError>
     requires one_each { length rows.now.rows ≡ nodes }
     requires below { AreEntriesBelow nodes rows.now }
     requires rising { AreRowsRising rows.now }

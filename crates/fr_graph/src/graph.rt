@@ -29,7 +29,7 @@ use crate::lowest_cycle::lowest_cycle;
 use crate::path_search::{PathAnswer, path_between};
 use crate::row::place_in_row;
 use crate::row_table::RowTable;
-use fr_search::Found;
+use fr_search::CycleOrOrder;
 use std::alloc::{AllocError, Global};
 
 /// The rows of a network, which hold its links, and heights of its nodes. If the heights are known, each link leads
@@ -175,7 +175,7 @@ impl Graph {
         if self.heights.are_valid() {
             return Ok(());
         }
-        let Found::Order(order) = find_cycle(alloc, self.nodes, &self.rows)? else {
+        let CycleOrOrder::Order(order) = find_cycle(alloc, self.nodes, &self.rows)? else {
             unreachable!();
         };
         self.heights.set_from_order(&order);
@@ -318,7 +318,7 @@ impl Graph {
     {
         done.clear();
         done.reserve(edits.len())?;
-        self.rows.trim(alloc)?;
+        self.rows.give_back_room(alloc)?;
         for (at, edit) in edits.iter().enumerate() {
             match self.edit(alloc, *edit) {
                 Ok(step) => done.push_reserved(step),

@@ -35,7 +35,7 @@ use crate::links::Links;
 use crate::row_table::RowTable;
 use crate::turned_rows::turn_rows;
 use crate::turns::Turns;
-use fr_search::Found;
+use fr_search::CycleOrOrder;
 use std::alloc::{AllocError, Global};
 use std::marker::Model;
 
@@ -171,8 +171,8 @@ impl Net {
         }
         let rows = rows_from_half_links(alloc, &halves, starts)?;
         match find_cycle(alloc, nodes, &rows)? {
-            Found::Walk(walk) => Err(NetFault::Cycle(walk)),
-            Found::Order(order) => Ok(Net {
+            CycleOrOrder::Cycle(walk) => Err(NetFault::Cycle(walk)),
+            CycleOrOrder::Order(order) => Ok(Net {
                 graph: graph_with_order(alloc, nodes, links.len(), rows, &order)?,
                 done: Vec::new(alloc),
             }),

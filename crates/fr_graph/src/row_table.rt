@@ -296,7 +296,7 @@ impl RowTable {
 
     /// Gives back room that rows do not need, if all rows together have room for far more entries than a network can
     /// have.
-    pub(crate) fn trim(&mut self, alloc: Global) -> Result<(), AllocError>
+    pub(crate) fn give_back_room(&mut self, alloc: Global) -> Result<(), AllocError>
         ensures rows { self.new.rows ≡ self.old.rows }
     {
         if self.entries.len() > MOST_ROOM {

@@ -112,14 +112,14 @@ abbrev pub Announcement : Node → Own → Type 0
 Announcement n new = Lowers n new ⊎ Raises n new ⊎ Keeps n new
 
 -- the last height may be used. A policy that waits lets it be used once each open gate stays open with it
-abbrev pub MaySettle : Node → Type 0
-MaySettle n = n.policy.wait ≡ true → All (λ l. l.up ≡ true → has_answered n.own l ≡ true
+abbrev pub MayUseAnnounced : Node → Type 0
+MayUseAnnounced n = n.policy.wait ≡ true → All (λ l. l.up ≡ true → has_answered n.own l ≡ true
     → n.own.announced_since ≤ l.acked) n.links.items
 
 -- the node uses the last height that it announced, if it may
 pub record Settles (n : Node) (new : Own) : Type 0 where
-  pub used : MaySettle n → new ≡ record n.own { used = n.own.announced; used_since = n.own.announced_since }
-  pub waits : ¬ MaySettle n → new ≡ n.own
+  pub used : MayUseAnnounced n → new ≡ record n.own { used = n.own.announced; used_since = n.own.announced_since }
+  pub waits : ¬ MayUseAnnounced n → new ≡ n.own
 
 -- the node acts by its policy, and then knows `new` of itself: it may announce a height, and then use the last one
 pub record Acts (n : Node) (new : Own) : Type 0 where

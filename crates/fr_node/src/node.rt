@@ -7,7 +7,7 @@ ghost use Rattle.fr_node.specs.Histories.{Announces};
 ghost use Rattle.fr_node.specs.declared.fault.NodeFault.TheVariants.{Itself, LaterStart, Memory, Outdated, TooHigh, Unwritten};
 ghost use Rattle.fr_node.specs.Links.{Hears, IsKnown, IsTaken, SetsCost, SetsUp, after_tick, has_answered, is_lost, is_lower, is_offer, is_way, leads_to, link_to, offer_of, unknown};
 ghost use Rattle.fr_node.specs.Distances.{AreWays, HasNoWay, IsDistance, IsLeast, IsNearest, NonePasses, ways_of};
-ghost use Rattle.fr_node.specs.Policies.{Acts, Announcement, FallsTo, IsAboveAll, IsAtDistance, IsAtOffer, IsAtTop, IsBestOrNone, MaySettle, RisesTo, better_of, is_higher, is_up};
+ghost use Rattle.fr_node.specs.Policies.{Acts, Announcement, FallsTo, IsAboveAll, IsAtDistance, IsAtOffer, IsAtTop, IsBestOrNone, MayUseAnnounced, RisesTo, better_of, is_higher, is_up};
 ghost use Rattle.fr_node.specs.Nodes.{IsMessageTo, Steps, lets_in, sends_to};
 ghost use Rattle.fr_node.specs.Events.{IsAfterEvent, IsNews, IsStarted, KnowsLaterStart, SaysTo, gates_of, is_gate};
 ghost use Rattle.fr_node.specs.Histories.{IsHistory};
@@ -611,7 +611,7 @@ impl Node {
     /// Whether the last height that was announced may be used: always if the policy does not wait, and otherwise if each
     /// open gate stays open.
     fn may_use_announced(&self) -> bool
-        ensures { IsTrue result ↔ MaySettle self.now }
+        ensures { IsTrue result ↔ MayUseAnnounced self.now }
     {
         !self.policy.wait || will_gates_stay_open(&self.links, &self.own)
     }

@@ -240,11 +240,7 @@ impl Router {
             plan,
             gate,
         };
-        Settler::new(
-            alloc,
-            &crew,
-        )
-        .open(net, dest)
+        Settler::new(alloc, &crew).open(net, dest)
     }
 
     /// Opens a router as [`open`](Self::open) does, on the calling thread. It starts no thread, does not wait, and
@@ -328,11 +324,11 @@ impl Router {
             plan,
             gate,
         };
-        without_edit_place(Settler::new(
-            alloc,
-            &crew,
-        )
-        .change(self, &change, &mut ChangedNodes::Unlisted))
+        without_edit_place(Settler::new(alloc, &crew).change(
+            self,
+            &change,
+            &mut ChangedNodes::Unlisted,
+        ))
     }
 
     /// Changes the network as [`change`](Self::change) does, on the calling thread. It starts no thread, does not wait,
@@ -653,7 +649,10 @@ impl Router {
         self.forwarding
             .distances
             .keep_from_now(&self.net, self.dest);
-        self.forwarding.distances.table.write_ways(&self.net, x, space)
+        self.forwarding
+            .distances
+            .table
+            .write_ways(&self.net, x, space)
     }
 
     /// The distance of node `x`, which must be in the network: the fewest links that lead from it down to the

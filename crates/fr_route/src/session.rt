@@ -170,11 +170,7 @@ impl Session {
             (λ answer. IfSome answer (λ text. (self.new ≡ self.old) ⊎ (length (string_bytes text) ≤ longest_report))) }
         ensures no_start { IfErr result (λ fault. fault ≢ Start) }
     {
-        Settler::new(alloc, &OnCallingThread).text_for_line(
-            self,
-            line,
-            &mut ChangedNodes::Unlisted,
-        )
+        Settler::new(alloc, &OnCallingThread).text_for_line(self, line, &mut ChangedNodes::Unlisted)
     }
 
     /// Answers a line as [`answer_line_alone`](Self::answer_line_alone) does, and lists the nodes that the line
@@ -229,11 +225,7 @@ impl Session {
             plan,
             gate,
         };
-        Settler::new(
-            alloc,
-            &crew,
-        )
-        .text_for_request(self, request, &mut ChangedNodes::Unlisted)
+        Settler::new(alloc, &crew).text_for_request(self, request, &mut ChangedNodes::Unlisted)
     }
 
     /// Answers a request as [`answer`](Self::answer) does, on the calling thread, and lists the nodes that the request
@@ -294,11 +286,7 @@ impl Session {
         ensures one_worker { crew.now.plan.now.workers ≡ 1 → IfErr result (λ fault. fault ≢ Start) }
         ensures no_start { crew.now.plan.now.budget ≡ 0 → IfErr result (λ fault. fault ≢ Start) }
     {
-        Settler::new(
-            crew.alloc,
-            crew,
-        )
-        .reply_line_in(self, form, line, space)
+        Settler::new(crew.alloc, crew).reply_line_in(self, form, line, space)
     }
 
     /// Answers a line in this form as [`answer_line_in`](Self::answer_line_in) does, on the calling thread. It starts

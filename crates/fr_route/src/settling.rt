@@ -47,6 +47,7 @@ pub(crate) trait Settle {
 
 impl<R: Threads + Wait + Sync, G: Gate + Sync> Settle for Crew<'_, R, G> {
     ghost never_starts = { λ crew. (crew.plan.now.budget ≡ 0) ⊎ (crew.plan.now.workers ≡ 1) };
+
     ghost can_settle = { λ _. IsSync R.row × IsSync G.row };
 
     fn settled_turns(
@@ -65,6 +66,7 @@ pub(crate) struct OnCallingThread;
 
 impl Settle for OnCallingThread {
     ghost never_starts = { λ _. Unit {0} };
+
     ghost can_settle = { λ _. Unit {0} };
 
     fn settled_turns(

@@ -4,8 +4,8 @@
 use Rattle.std.specs.Prelude.{◌≡◌, ◌≢◌, ℕ, ◌<◌, ◌≤◌, ◌+◌, List, Option, Some, None, length, drop, slice_index}
 use Rattle.std.specs.Prelude.{slice_index_or}
 use Rattle.std.specs.List.{All, Contains}
-use Rattle.fr_search.specs.declared.search.Found.{Found}
-use Rattle.fr_search.specs.declared.search.Found.TheVariants.{Walk, Order}
+use Rattle.fr_search.specs.declared.search.CycleOrOrder.{CycleOrOrder}
+use Rattle.fr_search.specs.declared.search.CycleOrOrder.TheVariants.{Cycle, Order}
 
 -- the rows of this number of nodes, with the head of each entry that has one
 pub record HeadRows : Type 0 where
@@ -62,6 +62,6 @@ pub record IsFirstCycle (rows : HeadRows) (walk : List ℕ) : Type 0 where
   pub is : walk ≡ drop back way
 
 -- what the search finds
-abbrev pub IsFound : ℕ → HeadRows → Found → Type 0
-IsFound n rows (Walk walk) = IsFirstCycle rows walk.items
+abbrev pub IsFound : ℕ → HeadRows → CycleOrOrder → Type 0
+IsFound n rows (Cycle walk) = IsFirstCycle rows walk.items
 IsFound n rows (Order order) = IsInOrder n rows order.items

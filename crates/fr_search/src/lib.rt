@@ -6,4 +6,4 @@ mod rows;
 mod search;
 
 pub use rows::Rows;
-pub use search::{Found, find_cycle};
+pub use search::{CycleOrOrder, find_cycle};

@@ -21,9 +21,9 @@ enum Mark {
 
 /// The result of the search.
 #[derive(Drop)]
-pub enum Found {
+pub enum CycleOrOrder {
     /// A cycle: its nodes, with the first one again at the end.
-    Walk(Vec<u32>),
+    Cycle(Vec<u32>),
     /// There is no cycle. The order lists all nodes, and the heads of each node before the node.
     Order(Vec<u32>),
 }
@@ -239,14 +239,14 @@ impl Search {
 /// Finds a cycle, or an order of all nodes that lists the heads of each node before the node. The cycle is the first
 /// one: the way into it begins at the lowest node that leads into a cycle, and always goes on by the first entry that
 /// does. Fails with `AllocError` if an allocation is refused. O(n + m) for n nodes and m entries.
-pub fn find_cycle<R: Rows>(alloc: Global, nodes: u32, rows: &R) -> Result<Found, AllocError>
+pub fn find_cycle<R: Rows>(alloc: Global, nodes: u32, rows: &R) -> Result<CycleOrOrder, AllocError>
     requires { AreRowsOf nodes (R.shown rows.now) }
     // The first cycle, or an order of all nodes that lists the heads of each node before the node.
     ensures { IfOk result (IsFound nodes (R.shown rows.now)) }
 {
     let mut search = Search::before_first_visit(alloc, nodes)?;
     match search.search_from_each_node(nodes, rows)? {
-        Some(node) => Ok(Found::Walk(cycle_closed_at(alloc, &search.path, node)?)),
-        None => Ok(Found::Order(search.order)),
+        Some(node) => Ok(CycleOrOrder::Cycle(cycle_closed_at(alloc, &search.path, node)?)),
+        None => Ok(CycleOrOrder::Order(search.order)),
     }
 }

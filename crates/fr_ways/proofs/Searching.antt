@@ -23,8 +23,11 @@ module _ (table : List (List ℕ)) (x y : ℕ) where
   pub sends_on : Leads (rows_of table) x y → Sends table x y
   sends_on (k, at) = elim (cases_lt k (length (ways table x))) [
     | inl low ↦ (k, low, some_is _ _ (sym (get_or-map Some (ways table x) k y None low) ∙ at))
-    | inr out ↦ cc (at, get_or_past (map Some (ways table x)) k None
-        (omega (arith, out, length-map (ways table x) Some)))
+    | inr out ↦ cc (
+      at,
+      get_or_past (map Some (ways table x)) k None
+          (omega (arith, out, length-map (ways table x) Some)),
+    )
   ]
 
   -- a node that may send on is in the table

@@ -5,7 +5,7 @@ ghost use Rattle.fr_ways.specs.Faults.{IsOnceRound};
 ghost use Rattle.fr_ways.specs.Ways.{HasNoCycle, IsInRange, rows_of};
 
 use crate::table::WayTable;
-use fr_search::{Found, Rows};
+use fr_search::{CycleOrOrder, Rows};
 use std::alloc::{AllocError, Global};
 
 impl Rows for WayTable {
@@ -32,10 +32,10 @@ pub(crate) fn find_cycle(alloc: Global, table: &WayTable) -> Result<Option<Vec<u
         (λ nodes. IsOnceRound table.now nodes.items)) }
 {
     match fr_search::find_cycle(alloc, table.len() as u32, table)? {
-        Found::Walk(mut walk) => {
+        CycleOrOrder::Cycle(mut walk) => {
             let _again = walk.pop();
             Ok(Some(walk))
         }
-        Found::Order(_) => Ok(None),
+        CycleOrOrder::Order(_) => Ok(None),
     }
 }

@@ -187,7 +187,7 @@ impl NodeState {
         ensures status { (result ≡ ANSWERED) ⊎ (result ≡ TOO_SHORT) }
     {
         *state = self.node.state();
-        ways_in(&self.node, &mut self.ways, place, size)
+        write_ways(&self.node, &mut self.ways, place, size)
     }
 
     /// Writes the neighbours that are let in, and the number of the ways and gates.
@@ -198,7 +198,7 @@ impl NodeState {
         ensures status { (result ≡ ANSWERED) ⊎ (result ≡ TOO_SHORT) }
     {
         *state = self.node.state();
-        gates_in(&self.node, &mut self.gates, place, size)
+        write_gates(&self.node, &mut self.gates, place, size)
     }
 
     /// Writes the distance, if there is a way.
@@ -259,7 +259,7 @@ fn number(flag: bool) -> u32
 }
 
 /// Writes the neighbours to which a node may send packets, nearest first. The content of the list is lost.
-fn ways_in(node: &Node, list: &mut Vec<Way>, place: &mut [u32], size: &mut usize) -> u32
+fn write_ways(node: &Node, list: &mut Vec<Way>, place: &mut [u32], size: &mut usize) -> u32
     requires { vec_len node.now.links ≤ vec_capacity list.old }
     ensures gives { GivesList (AreNeighbours node.now) (outcome result place.old place.new size.new) }
     ensures capacity { vec_capacity list.new ≡ vec_capacity list.old }
@@ -270,7 +270,7 @@ fn ways_in(node: &Node, list: &mut Vec<Way>, place: &mut [u32], size: &mut usize
 }
 
 /// Writes the neighbours that a node lets in. The content of the list is lost.
-fn gates_in(node: &Node, list: &mut Vec<u32>, place: &mut [u32], size: &mut usize) -> u32
+fn write_gates(node: &Node, list: &mut Vec<u32>, place: &mut [u32], size: &mut usize) -> u32
     requires { vec_len node.now.links ≤ vec_capacity list.old }
     ensures gives { GivesList (λ gates. gates ≡ gates_of node.now) (outcome result place.old place.new size.new) }
     ensures capacity { vec_capacity list.new ≡ vec_capacity list.old }

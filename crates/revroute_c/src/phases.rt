@@ -98,7 +98,7 @@ pub(crate) fn hand_out_pushes(
 }
 
 /// Writes the pushes that the caller asks for. `size` must be 0.
-pub(crate) fn way_pushes_in(
+pub(crate) fn write_way_pushes(
     session: &Session,
     alloc: Global,
     asked: &PhaseRequest<'_>,

@@ -16,12 +16,13 @@ ghost use Rattle.revroute_c.specs.Ways.{HasRoute};
 use crate::handle::Handle;
 use crate::push_orders::{Tables, order_of};
 use crate::questions::{
-    HOP_OF_NO_NETWORK, counts_in, dest_in, hop_in, hops_in, links_in, report_in, size_in, walk_in,
+    HOP_OF_NO_NETWORK, dest_in, hop_in, write_counts, write_hops, write_links, write_report,
+    write_size, write_walk,
 };
 use crate::records::{Link, Refusal, Round};
 use crate::replies::hand_out;
 use crate::statuses::{ANSWERED, NO_MEMORY, NO_NETWORK, REFUSED, TOO_SHORT};
-use crate::tables::pushes_in;
+use crate::tables::write_pushes;
 use std::alloc::Global;
 
 /// Returns the next hop of a node, or one of the named values, which are greater than all nodes. It accepts any number
@@ -51,7 +52,7 @@ pub extern "C" fn revroute_hops(handle: &mut Handle, hops: &mut [u32], size: &mu
 {
     *size = 0;
     match handle.session_state_mut() {
-        Some(state) => hops_in(state.session(), hops, size),
+        Some(state) => write_hops(state.session(), hops, size),
         None => NO_NETWORK,
     }
 }
@@ -108,7 +109,7 @@ pub extern "C" fn revroute_pushes(
 {
     *size = 0;
     match handle.session_state_mut() {
-        Some(state) => pushes_in(state.session(), alloc, table, nodes, size),
+        Some(state) => write_pushes(state.session(), alloc, table, nodes, size),
         None => NO_NETWORK,
     }
 }
@@ -156,7 +157,7 @@ pub extern "C" fn revroute_counts(handle: &mut Handle, counts: &mut [u64], size:
 {
     *size = 0;
     match handle.session_state_mut() {
-        Some(state) => counts_in(state.session(), counts, size),
+        Some(state) => write_counts(state.session(), counts, size),
         None => NO_NETWORK,
     }
 }
@@ -189,7 +190,7 @@ pub extern "C" fn revroute_walk(
 {
     *size = 0;
     match handle.session_state_mut() {
-        Some(state) => walk_in(state.session(), alloc, node, nodes, size),
+        Some(state) => write_walk(state.session(), alloc, node, nodes, size),
         None => NO_NETWORK,
     }
 }
@@ -216,7 +217,7 @@ pub extern "C" fn revroute_links(
 {
     *size = 0;
     match handle.session_state_mut() {
-        Some(state) => links_in(state.session(), alloc, links, size),
+        Some(state) => write_links(state.session(), alloc, links, size),
         None => NO_NETWORK,
     }
 }
@@ -238,7 +239,7 @@ pub extern "C" fn revroute_report(handle: &mut Handle, round: &mut Round) -> u32
         cut_off: 0,
     };
     match handle.session_state_mut() {
-        Some(state) => report_in(state.session(), round),
+        Some(state) => write_report(state.session(), round),
         None => NO_NETWORK,
     }
 }
@@ -270,7 +271,7 @@ pub extern "C" fn revroute_size(handle: &mut Handle, nodes: &mut u32, links: &mu
     *nodes = 0;
     *links = 0;
     match handle.session_state_mut() {
-        Some(state) => size_in(state.session(), nodes, links),
+        Some(state) => write_size(state.session(), nodes, links),
         None => NO_NETWORK,
     }
 }

@@ -86,7 +86,7 @@ pub(crate) fn hop_in(session: &Session, node: u32) -> u32
 }
 
 /// Writes the hop of each node, if there is a network. `size` must be 0.
-pub(crate) fn hops_in(session: &Session, hops: &mut [u32], size: &mut usize) -> u32
+pub(crate) fn write_hops(session: &Session, hops: &mut [u32], size: &mut usize) -> u32
     requires { size.old ≡ 0 }
     ensures gives { GivesList (AreAsManyAsNodes session.now) (outcome result hops.old hops.new size.new) }
     ensures hops { result ≡ ANSWERED → IfSome session.now (λ s. AreHopsWritten s hops.old hops.new) }
@@ -100,7 +100,7 @@ pub(crate) fn hops_in(session: &Session, hops: &mut [u32], size: &mut usize) -> 
 }
 
 /// Writes how often each node turned in the last round, if there is a network. `size` must be 0.
-pub(crate) fn counts_in(session: &Session, counts: &mut [u64], size: &mut usize) -> u32
+pub(crate) fn write_counts(session: &Session, counts: &mut [u64], size: &mut usize) -> u32
     requires { size.old ≡ 0 }
     ensures gives { GivesList (AreCounts session.now) (outcome result counts.old counts.new size.new) }
     ensures no_network { (result ≡ NO_NETWORK) ↔ (session.now ≡ None) }
@@ -114,7 +114,7 @@ pub(crate) fn counts_in(session: &Session, counts: &mut [u64], size: &mut usize)
 
 /// Writes the nodes of the route from a node to the destination, if there is one. `size` must be 0.
 #[tactic(auto, using(crate::proofs::Connected::not_cut_off))]
-pub(crate) fn walk_in(
+pub(crate) fn write_walk(
     session: &Session,
     alloc: Global,
     node: u32,
@@ -142,7 +142,7 @@ pub(crate) fn walk_in(
 }
 
 /// Writes the report of the last round, if there is a network.
-pub(crate) fn report_in(session: &Session, round: &mut Round) -> u32
+pub(crate) fn write_report(session: &Session, round: &mut Round) -> u32
     ensures report { result ≡ ANSWERED → IfSome session.now (λ s. IsReport s round.new.turned round.new.cut_off) }
     ensures no_network { (result ≡ NO_NETWORK) ↔ (session.now ≡ None) }
     ensures none { result ≡ NO_NETWORK → round.new ≡ round.old }
@@ -166,7 +166,7 @@ pub(crate) fn dest_in(session: &Session) -> u32
 }
 
 /// Writes the numbers of nodes and links, if there is a network. Both numbers must be 0.
-pub(crate) fn size_in(session: &Session, nodes: &mut u32, links: &mut usize) -> u32
+pub(crate) fn write_size(session: &Session, nodes: &mut u32, links: &mut usize) -> u32
     requires { (nodes.old ≡ 0) × (links.old ≡ 0) }
     ensures size { result ≡ ANSWERED → IfSome session.now (λ s. (nodes.new ≡ s.nodes) × (links.new ≡ length s.links)) }
     ensures no_network { (result ≡ NO_NETWORK) ↔ (session.now ≡ None) }
@@ -182,7 +182,7 @@ pub(crate) fn size_in(session: &Session, nodes: &mut u32, links: &mut usize) -> 
 }
 
 /// Writes the links, if there is a network. `size` must be 0.
-pub(crate) fn links_in(
+pub(crate) fn write_links(
     session: &Session,
     alloc: Global,
     links: &mut [Link],

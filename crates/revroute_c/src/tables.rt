@@ -50,7 +50,7 @@ pub(crate) fn table_of(alloc: Global, numbers: &[u32]) -> Result<Vec<Hop>, Alloc
 }
 
 /// Writes the nodes whose hop differs from that in the caller's table, in push order. `size` must be 0.
-pub(crate) fn pushes_in(
+pub(crate) fn write_pushes(
     session: &Session,
     alloc: Global,
     table: &[u32],

@@ -11,11 +11,11 @@ ghost use Rattle.revroute_c.specs.Statuses.{REVROUTE_NO_TABLE};
 ghost use Rattle.revroute_c.specs.Ways.{AreWaysFrom, GivesAllWays, HasRoute, IsNearestFrom, TellsDistance};
 
 use crate::handle::Handle;
-use crate::phases::{Phase, PhaseRequest, hand_out_pushes, way_pushes_in};
+use crate::phases::{Phase, PhaseRequest, hand_out_pushes, write_way_pushes};
 use crate::questions::HOP_OF_NO_NETWORK;
 use crate::replies::hand_out;
 use crate::statuses::{ANSWERED, NO_MEMORY, NO_NETWORK, TOO_SHORT};
-use crate::ways::{all_ways_in, distance_in, nearest_in, ways_in};
+use crate::ways::{distance_in, write_all_ways, write_nearest, write_ways};
 use std::alloc::Global;
 
 /// Writes the ways of a node, nearest first, to the front of `ways`, and their number to `size`. The ways are the nodes
@@ -42,7 +42,7 @@ pub extern "C" fn revroute_ways(
 {
     *size = 0;
     match handle.session_state_mut() {
-        Some(state) => ways_in(&mut state.published, &mut state.ways, node, ways, size),
+        Some(state) => write_ways(&mut state.published, &mut state.ways, node, ways, size),
         None => NO_NETWORK,
     }
 }
@@ -85,7 +85,7 @@ pub extern "C" fn revroute_nearest(
 {
     *size = 0;
     match handle.session_state_mut() {
-        Some(state) => nearest_in(&mut state.published, alloc, node, nodes, size),
+        Some(state) => write_nearest(&mut state.published, alloc, node, nodes, size),
         None => NO_NETWORK,
     }
 }
@@ -117,7 +117,7 @@ pub extern "C" fn revroute_all_ways(
 {
     *size = 0;
     match handle.session_state_mut() {
-        Some(state) => all_ways_in(state.session(), alloc, starts, ways, size),
+        Some(state) => write_all_ways(state.session(), alloc, starts, ways, size),
         None => NO_NETWORK,
     }
 }
@@ -160,7 +160,7 @@ pub extern "C" fn revroute_shrink(
 {
     *size = 0;
     match handle.session_state_mut() {
-        Some(state) => way_pushes_in(
+        Some(state) => write_way_pushes(
             state.session(),
             alloc,
             &PhaseRequest {
@@ -201,7 +201,7 @@ pub extern "C" fn revroute_grow(
 {
     *size = 0;
     match handle.session_state_mut() {
-        Some(state) => way_pushes_in(
+        Some(state) => write_way_pushes(
             state.session(),
             alloc,
             &PhaseRequest {

@@ -36,7 +36,7 @@ fn expect_route(session: &Session, node: u32) -> Result<(), u32>
 
 /// Writes the ways of a node, nearest first, if it has a route. The content of `list` is lost; its room is used again,
 /// so that few answers allocate. `size` must be 0.
-pub(crate) fn ways_in(
+pub(crate) fn write_ways(
     published: &mut PublishedSession,
     list: &mut Vec<u32>,
     node: u32,
@@ -79,7 +79,7 @@ pub(crate) fn distance_in(published: &mut PublishedSession, node: u32) -> u32
 }
 
 /// Writes the nodes of the nearest route from a node to the destination, if there is one. `size` must be 0.
-pub(crate) fn nearest_in(
+pub(crate) fn write_nearest(
     published: &mut PublishedSession,
     alloc: Global,
     node: u32,
@@ -129,7 +129,7 @@ fn hand_out_rows(table: &WayTable, starts: &mut [usize], ways: &mut [u32], size:
 }
 
 /// Writes the ways of each node, if there is a network. `size` must be 0.
-pub(crate) fn all_ways_in(
+pub(crate) fn write_all_ways(
     session: &Session,
     alloc: Global,
     starts: &mut [usize],

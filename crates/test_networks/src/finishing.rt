@@ -108,7 +108,7 @@ fn take_all(answer: &mut Answer, net: &Net, turns: &mut Turns, steps: &Value) {
 fn take(answer: &mut Answer, net: &Net, turns: &mut Turns, step: &Value) {
     match items(answer, step) {
         [asked] => tell_or_clear(answer, turns, asked),
-        [asked, dest, from] => go_on(answer, net, turns, asked, dest, from),
+        [asked, dest, from] => go_on(answer, net, turns, asked, (dest, from)),
         _ => answer.note_no_case(),
     }
 }
@@ -135,8 +135,7 @@ fn go_on(
     net: &Net,
     turns: &mut Turns,
     asked: &Value,
-    dest: &Value,
-    from: &Value,
+    (dest, from): (&Value, &Value),
 ) {
     let dest = number(answer, dest);
     let from = numbers(answer, from);

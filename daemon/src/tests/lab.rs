@@ -381,7 +381,7 @@ impl Lab {
     }
 
     /// What the machines have of a prefix.
-    pub fn told(&self, prefix: Prefix) -> String {
+    pub fn known_of(&self, prefix: Prefix) -> String {
         let mut text = String::new();
         for (router, machine) in &self.machines {
             text += &format!("\n{router} in session {}:", machine.start.session);
@@ -405,7 +405,7 @@ impl Lab {
                 assert!(
                     self.arrives(from, to),
                     "{from} to {to}: {}",
-                    self.told(own(to))
+                    self.known_of(own(to))
                 );
             }
         }

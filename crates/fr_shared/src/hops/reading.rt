@@ -61,11 +61,11 @@ impl Reader<Hop> {
         let mut hop = self.hop(x);
         for count in 0..nodes.len() {
             let Hop::To(next) = hop else {
-                return Walk::ending_at(count, hop);
+                return Walk::with_last_hop(count, hop);
             };
             nodes[count] = next;
             hop = self.hop(next);
         }
-        Walk::ending_at(nodes.len(), hop)
+        Walk::with_last_hop(nodes.len(), hop)
     }
 }

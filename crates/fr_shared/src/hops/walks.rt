@@ -27,7 +27,7 @@ pub enum WalkEnd {
 
 impl Walk {
     /// A walk with so many nodes after the first one, whose last node has this hop.
-    pub(crate) fn ending_at(count: usize, hop: Hop) -> Walk
+    pub(crate) fn with_last_hop(count: usize, hop: Hop) -> Walk
         ensures count { result.count ≡ count }
         ensures end { result.end ≡ end_by hop }
     {

@@ -5,7 +5,7 @@ ghost use Rattle.fr_shared.specs.Reading.{HasRead};
 ghost use Rattle.fr_shared.specs.WayTables.{IsChosen, way_codec, ways_of};
 
 use crate::reader::Reader;
-use crate::ways::words::{MOST, count_in, way_in, ways_in};
+use crate::ways::words::{MOST, copy_ways, count_in, way_in};
 use std::collections::LinkedList;
 
 impl Reader<LinkedList<u32>> {
@@ -24,7 +24,7 @@ impl Reader<LinkedList<u32>> {
         ensures rest { drop result list.new ≡ drop result list.old }
     {
         let word = self.word(x);
-        ways_in(word, list)
+        copy_ways(word, list)
     }
 
     /// Returns one of the ways of node `x`, which must be in the table: the one that `choice`, such as a hash of a

@@ -42,7 +42,7 @@ pub(crate) fn way_in(word: u64, k: usize) -> u32
 
 /// Writes the ways that a word holds to the front of a list, and returns how many they are. The rest of the list is
 /// unchanged.
-pub(crate) fn ways_in(word: u64, list: &mut [u32; MOST]) -> usize
+pub(crate) fn copy_ways(word: u64, list: &mut [u32; MOST]) -> usize
     requires { length (ways_of word) ≤ 5 }
     ensures count { result ≡ length (ways_of word) }
     ensures ways { take result list.new ≡ ways_of word }
@@ -90,8 +90,8 @@ pub(crate) fn kept_ways_of_loser(old: u64, new: u64, list: &mut [u32; MOST]) -> 
 {
     let mut before = [0; MOST];
     let mut after = [0; MOST];
-    let before_count = ways_in(old, &mut before);
-    let after_count = ways_in(new, &mut after);
+    let before_count = copy_ways(old, &mut before);
+    let after_count = copy_ways(new, &mut after);
     if !loses_way(&before[..before_count], &after[..after_count]) {
         return None;
     }

@@ -10,10 +10,10 @@ find_cycle-requires c = record {
   below = λ x y leads. omega (arith, c.requires.range x y (sends_on c.args.table.now x y leads), c.len.ensures);
 }
 
-pub returns-in-Walk : goal.returns-in-Walk
-returns-in-Walk c =
-    let walk = c.in-Walk.walk in
-    let cycle : IsFirstCycle (rows_of c.args.table.now) walk.items = rw c.in-Walk.is at c.in_ok-walk.ensures in
+pub returns-in-Cycle : goal.returns-in-Cycle
+returns-in-Cycle c =
+    let walk = c.in-Cycle.walk in
+    let cycle : IsFirstCycle (rows_of c.args.table.now) walk.items = rw c.in-Cycle.is at c.in_ok-walk.ensures in
     let long : length walk.items ≡ walk.len = omega (arith, walk.ok.0) in
     rw c.pop-again.ensures.rest (rw long at (once_round c.args.table.now walk.items cycle))
 

@@ -21,15 +21,15 @@ still c =
     (subst (λ (m : Network). AreDone c.loop-at.self (shown c.args.self.now) c.loop-at.done.items m) (sym same.same)
     c.loop-at.invariant.undo)
 
-pub returns-in_err-trim-clause-graph : goal.returns-in_err-trim-clause-graph
-returns-in_err-trim-clause-graph c = graph_of_rows c.args.self.now c.trim.new.self c.trim.ensures.rows c.requires.graph
+pub returns-in_err-give_back_room-clause-graph : goal.returns-in_err-give_back_room-clause-graph
+returns-in_err-give_back_room-clause-graph c = graph_of_rows c.args.self.now c.give_back_room.new.self c.give_back_room.ensures.rows c.requires.graph
 
 pub loop-at-init : goal.loop-at-init
 loop-at-init c =
     let same =
-    ap (with_links c.args.self.now.nodes) (shown_of_rows c.args.self.now c.trim.new.self c.trim.ensures.rows) in
+    ap (with_links c.args.self.now.nodes) (shown_of_rows c.args.self.now c.give_back_room.new.self c.give_back_room.ensures.rows) in
     record {
-      graph = graph_of_rows c.args.self.now c.trim.new.self c.trim.ensures.rows c.requires.graph;
+      graph = graph_of_rows c.args.self.now c.give_back_room.new.self c.give_back_room.ensures.rows c.requires.graph;
       made = same;
       undo = rw (c.reserve.ensures.items ∙ c.clear.ensures.items) same;
       one_each = c.reserve.ensures.len ∙ c.clear.ensures.len;

@@ -10,7 +10,7 @@ use Rattle.fr_graph.specs.Heights.{HasHeadsFirst}
 use Rattle.fr_graph.specs.KeptRows.{AreRows, net_in}
 use Rattle.fr_graph.specs.Links.{HaveSameLinks, IsAcyclic, IsCycle}
 use Rattle.fr_graph.proofs.network.Net.new.Goals as goal
-use Rattle.fr_graph.proofs.network.Net.new.Goals.{After-deref-2, In-Order, In-Walk, In_ok-rows}
+use Rattle.fr_graph.proofs.network.Net.new.Goals.{After-deref-2, In-Order, In-Cycle, In_ok-rows}
 
 pub sorted_half_links-requires-clause-nodes : goal.sorted_half_links-requires-clause-nodes
 sorted_half_links-requires-clause-nodes c = c.in_ok-test_links.ensures.limits.nodes_few
@@ -82,29 +82,29 @@ pub find_cycle-requires-clause-rising : goal.find_cycle-requires-clause-rising
 find_cycle-requires-clause-rising c = rows_rise c.args.nodes c.args.links.now c.in_ok-rows.rows
     (rows_are (goal.at.find_cycle-requires-clause-rising c).In_ok-rows)
 
-walk_found : (c : In-Walk)
-    → IsCycle (net_in c.in_ok-rows.rows).links c.in-Walk.walk.items
-    × IsLowestCycle (net_in c.in_ok-rows.rows).links c.in-Walk.walk.items
-walk_found c = rw c.in-Walk.is at c.in_ok-walk.ensures
+walk_found : (c : In-Cycle)
+    → IsCycle (net_in c.in_ok-rows.rows).links c.in-Cycle.walk.items
+    × IsLowestCycle (net_in c.in_ok-rows.rows).links c.in-Cycle.walk.items
+walk_found c = rw c.in-Cycle.is at c.in_ok-walk.ensures
 
-pub returns-in-Walk-clause-names : goal.returns-in-Walk-clause-names
-returns-in-Walk-clause-names c =
-    let b = goal.at.returns-in-Walk-clause-names c in
-    cycle_carry (λ u v. let both = same b.In_ok-rows u v in (both.1, both.0)) (walk_found b.In-Walk).1
+pub returns-in-Cycle-clause-names : goal.returns-in-Cycle-clause-names
+returns-in-Cycle-clause-names c =
+    let b = goal.at.returns-in-Cycle-clause-names c in
+    cycle_carry (λ u v. let both = same b.In_ok-rows u v in (both.1, both.0)) (walk_found b.In-Cycle).1
 
-pub returns-in-Walk-clause-refused : goal.returns-in-Walk-clause-refused
-returns-in-Walk-clause-refused c _ =
-    let b = goal.at.returns-in-Walk-clause-refused c in
+pub returns-in-Cycle-clause-refused : goal.returns-in-Cycle-clause-refused
+returns-in-Cycle-clause-refused c _ =
+    let b = goal.at.returns-in-Cycle-clause-refused c in
     let listed = c.args.links.now in
     let halves = c.in_ok-halves.halves.items in
     let ends = c.in_ok-test_links.ensures in
     let rising : AreHalvesRising halves = (halves_are b.After-deref-2).rising in
-    let found = (walk_found b.In-Walk).0 in (
+    let found = (walk_found b.In-Cycle).0 in (
       ends.limits,
       ends.range,
       ends.clear,
       single_from_rising listed halves c.in_ok-halves.ensures.same ends.clear rising,
-      cycle_stands (net_in c.in_ok-rows.rows).links listed c.in-Walk.walk.items (λ u v. (same b.In_ok-rows u v).1)
+      cycle_stands (net_in c.in_ok-rows.rows).links listed c.in-Cycle.walk.items (λ u v. (same b.In_ok-rows u v).1)
           found,
     )
 

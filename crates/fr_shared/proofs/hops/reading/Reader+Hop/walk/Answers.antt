@@ -23,12 +23,12 @@ loop-count-preserved c = record {
 
 pub returns-in_default-clause-walked : goal.returns-in_default-clause-walked
 returns-in_default-clause-walked c =
-    walk_ends c.ending_at.result c.loop-count.invariant.way c.ending_at.ensures.count c.ending_at.ensures.end
+    walk_ends c.with_last_hop.result c.loop-count.invariant.way c.with_last_hop.ensures.count c.with_last_hop.ensures.end
     (omega arith)
-    (λ longer. absurd (not_longer c.loop-count.hop c.in_default.not-To (sym c.ending_at.ensures.end ∙ longer)))
+    (λ longer. absurd (not_longer c.loop-count.hop c.in_default.not-To (sym c.with_last_hop.ensures.end ∙ longer)))
 
 pub returns-clause-walked : goal.returns-clause-walked
 returns-clause-walked c =
-    walk_ends c.ending_at-2.result c.loop-count.invariant.way (omega (arith, c.ending_at-2.ensures.count))
-    c.ending_at-2.ensures.end
+    walk_ends c.with_last_hop-2.result c.loop-count.invariant.way (omega (arith, c.with_last_hop-2.ensures.count))
+    c.with_last_hop-2.ensures.end
     (omega arith) (λ _. omega arith)

@@ -1,6 +1,6 @@
 use Rattle.std.proofs.Common.{drop, length, take, ◌≡◌, ◌≤◌}
 use Rattle.fr_shared.specs.WayTables.{ways_of}
-use Rattle.fr_shared.proofs.ways.words.ways_in.Given as goal
+use Rattle.fr_shared.proofs.ways.words.copy_ways.Given as goal
 
 abbrev pub invariant-loop-k : goal.invariant-loop-k
 invariant-loop-k l = record {

@@ -1,7 +1,7 @@
 use Rattle.std.proofs.Common.{arith, find, length, rules, None, ◌≡◌}
 use Rattle.revroute_c.specs.Tables.{is_outside}
 use Rattle.revroute_c.proofs.InRange.{all_in_range}
-use Rattle.revroute_c.proofs.tables.pushes_in.Goals as goal
+use Rattle.revroute_c.proofs.tables.write_pushes.Goals as goal
 
 pub known_pushes-requires-clause-range : goal.known_pushes-requires-clause-range
 known_pushes-requires-clause-range c =

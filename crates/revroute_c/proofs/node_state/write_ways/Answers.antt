@@ -2,7 +2,7 @@ use Rattle.std.proofs.Common.{rules, refl, ◌≡◌, length}
 use Rattle.std.proofs.lemmas.List.{length-map}
 use Rattle.fr_node.specs.declared.way.Way.{Way}
 use Rattle.revroute_c.specs.NodeCalls.{neighbours_of}
-use Rattle.revroute_c.proofs.node_state.ways_in.Goals as goal
+use Rattle.revroute_c.proofs.node_state.write_ways.Goals as goal
 
 pub returns-clause-gives : goal.returns-clause-gives
 returns-clause-gives c =
