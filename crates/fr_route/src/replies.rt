@@ -9,6 +9,7 @@ ghost use Rattle.std.specs.declared.vec.Vec.{Vec};
 ghost use Rattle.fr_tables.specs.declared.hop.Hop.{Hop};
 ghost use Rattle.fr_requests.specs.Requests.{ask, ask_node, make_edits, move_dest, new_network, order_pushes, push_ways};
 ghost use Rattle.fr_requests.specs.Requests.{plain, reading, walk_from};
+ghost use Rattle.fr_route.specs.Ways.{Settles, NeverStarts};
 ghost use Rattle.fr_route.specs.Answers.{IsAccepted};
 ghost use Rattle.fr_route.specs.Json.{ends};
 ghost use Rattle.fr_route.specs.Listing.{IsListing, nodes_told};
@@ -35,9 +36,10 @@ use crate::reports::{begin_report, push_report_in_form, write_new_report};
 use crate::revision::Revision;
 use crate::router::Router;
 use crate::session::Session;
-use crate::settling::{Settle, Settler};
+use crate::settling::Settler;
 use crate::space::AnswerSpace;
-use fr_graph::{Edit, MAX_EDITS, MAX_NODES, Net, NetFault};
+use fr_crew::CrewFault;
+use fr_graph::{Edit, MAX_EDITS, MAX_NODES, Net, NetFault, Turns};
 use fr_requests::{LineFault, NodeQuestion, Question, Request};
 use fr_tables::Hop;
 use fr_ways::WayTable;
@@ -229,7 +231,7 @@ fn ends_of_edit_at(edits: &[Edit], at: usize) -> [u32; 2]
     }
 }
 
-impl<'a, S: Settle> Settler<'a, S> {
+impl<'a, F: Fn(&Net, u32, Option<&[u32]>, Turns) -> Result<Turns, CrewFault>> Settler<'a, F> {
     /// The answer to a line as text, or `None` for a blank one.
     pub(crate) fn text_for_line(
         &self,
@@ -237,9 +239,9 @@ impl<'a, S: Settle> Settler<'a, S> {
         line: &[u8],
         told: &mut ChangedNodes,
     ) -> Result<Option<String>, AnswerFault>
-        requires { S.can_settle self.now.settle.now }
+        requires { Settles F.pre F.post self.now.settle.now }
         ensures { IsLineAnswered
-            (S.never_starts self.now.settle.now) session.old line.now told.old result session.new told.new }
+            (NeverStarts F.post self.now.settle.now) session.old line.now told.old result session.new told.new }
     {
         let mut draft = Draft::text(self.alloc);
         match self.reply_line(session, &mut draft, line, told)? {
@@ -255,8 +257,8 @@ impl<'a, S: Settle> Settler<'a, S> {
         request: &Request,
         told: &mut ChangedNodes,
     ) -> Result<String, AnswerFault>
-        requires { S.can_settle self.now.settle.now }
-        ensures { IsAnswered (S.never_starts self.now.settle.now) session.old
+        requires { Settles F.pre F.post self.now.settle.now }
+        ensures { IsAnswered (NeverStarts F.post self.now.settle.now) session.old
             (Ok (plain request.now)) told.old result session.new told.new }
     {
         let mut draft = Draft::text(self.alloc);
@@ -272,8 +274,8 @@ impl<'a, S: Settle> Settler<'a, S> {
         line: Line<'_>,
         space: &mut AnswerSpace,
     ) -> Result<Option<Answer>, AnswerFault>
-        requires { S.can_settle self.now.settle.now }
-        ensures { IsLineAnsweredIn (S.never_starts self.now.settle.now) form line.entry.number session.old
+        requires { Settles F.pre F.post self.now.settle.now }
+        ensures { IsLineAnsweredIn (NeverStarts F.post self.now.settle.now) form line.entry.number session.old
             line.entry.bytes.now result session.new }
     {
         let mut draft = Draft {
@@ -302,8 +304,8 @@ impl<'a, S: Settle> Settler<'a, S> {
         line: &[u8],
         space: &mut AnswerSpace,
     ) -> Result<Option<bool>, AnswerFault>
-        requires { S.can_settle self.now.settle.now }
-        ensures { IsLineAnsweredIn (S.never_starts self.now.settle.now) draft.old.form draft.old.number session.old
+        requires { Settles F.pre F.post self.now.settle.now }
+        ensures { IsLineAnsweredIn (NeverStarts F.post self.now.settle.now) draft.old.form draft.old.number session.old
             line.now (answered result draft.new) session.new }
     {
         match draft.form {
@@ -327,9 +329,9 @@ impl<'a, S: Settle> Settler<'a, S> {
         line: &[u8],
         space: &mut AnswerSpace,
     ) -> Result<Option<bool>, AnswerFault>
-        requires shared { S.can_settle self.now.settle.now }
+        requires settles { Settles F.pre F.post self.now.settle.now }
         requires form { draft.old.form ≡ JsonWithWays }
-        ensures { IsLineAnsweredIn (S.never_starts self.now.settle.now) JsonWithWays draft.old.number session.old
+        ensures { IsLineAnsweredIn (NeverStarts F.post self.now.settle.now) JsonWithWays draft.old.number session.old
             line.now (answered result draft.new) session.new }
     {
         if is_blank(line) {
@@ -349,10 +351,10 @@ impl<'a, S: Settle> Settler<'a, S> {
         line: &[u8],
         told: &mut ChangedNodes,
     ) -> Result<Option<bool>, AnswerFault>
-        requires shared { S.can_settle self.now.settle.now }
+        requires settles { Settles F.pre F.post self.now.settle.now }
         requires lists { HasList draft.old.form told.old }
         ensures { IsLineReplied
-            (S.never_starts self.now.settle.now) (answer_form draft.old) session.old line.now told.old result draft.new
+            (NeverStarts F.post self.now.settle.now) (answer_form draft.old) session.old line.now told.old result draft.new
             session.new told.new }
     {
         if is_blank(line) {
@@ -369,9 +371,9 @@ impl<'a, S: Settle> Settler<'a, S> {
         line: &[u8],
         told: &mut ChangedNodes,
     ) -> Result<bool, AnswerFault>
-        requires shared { S.can_settle self.now.settle.now }
+        requires settles { Settles F.pre F.post self.now.settle.now }
         requires lists { HasList draft.old.form told.old }
-        ensures { IsReplied (S.never_starts self.now.settle.now) (answer_form draft.old) session.old
+        ensures { IsReplied (NeverStarts F.post self.now.settle.now) (answer_form draft.old) session.old
             (reading line.now) told.old result draft.new session.new told.new }
     {
         match session.read(self.alloc, line) {
@@ -390,9 +392,9 @@ impl<'a, S: Settle> Settler<'a, S> {
         request: &Request,
         told: &mut ChangedNodes,
     ) -> Result<bool, AnswerFault>
-        requires shared { S.can_settle self.now.settle.now }
+        requires settles { Settles F.pre F.post self.now.settle.now }
         requires lists { HasList draft.old.form told.old }
-        ensures { IsReplied (S.never_starts self.now.settle.now) (answer_form draft.old) session.old
+        ensures { IsReplied (NeverStarts F.post self.now.settle.now) (answer_form draft.old) session.old
             (Ok (plain request.now)) told.old result draft.new session.new told.new }
     {
         match request {
@@ -435,9 +437,9 @@ impl<'a, S: Settle> Settler<'a, S> {
         parts: Parts<'_>,
         told: &mut ChangedNodes,
     ) -> Result<bool, AnswerFault>
-        requires shared { S.can_settle self.now.settle.now }
+        requires settles { Settles F.pre F.post self.now.settle.now }
         requires lists { HasList draft.old.form told.old }
-        ensures { IsReplied (S.never_starts self.now.settle.now) (answer_form draft.old) session.old
+        ensures { IsReplied (NeverStarts F.post self.now.settle.now) (answer_form draft.old) session.old
             (Ok (new_network parts.entry.nodes parts.entry.dest parts.entry.links.now)) told.old result draft.new session.new
             told.new }
     {
@@ -458,10 +460,10 @@ impl<'a, S: Settle> Settler<'a, S> {
         dest: u32,
         links: &[(u32, u32)],
     ) -> Result<Router, RouteFault>
-        requires { S.can_settle self.now.settle.now }
+        requires { Settles F.pre F.post self.now.settle.now }
         ensures accepted { IfOk result (IsAccepted None (new_network nodes dest links.now)) }
         ensures refused { IfErr result (IsNewFault nodes dest links.now) }
-        ensures no_start { S.never_starts self.now.settle.now → IfErr result (λ fault. fault ≢ RouteStart) }
+        ensures no_start { NeverStarts F.post self.now.settle.now → IfErr result (λ fault. fault ≢ RouteStart) }
     {
         let net = Net::new(self.alloc, nodes, links)?;
         self.open(net, dest)
@@ -475,9 +477,9 @@ impl<'a, S: Settle> Settler<'a, S> {
         edit: Edit,
         told: &mut ChangedNodes,
     ) -> Result<bool, AnswerFault>
-        requires shared { S.can_settle self.now.settle.now }
+        requires settles { Settles F.pre F.post self.now.settle.now }
         requires lists { HasList draft.old.form told.old }
-        ensures { IsReplied (S.never_starts self.now.settle.now) (answer_form draft.old) session.old
+        ensures { IsReplied (NeverStarts F.post self.now.settle.now) (answer_form draft.old) session.old
             (Ok (request_of_edit edit)) told.old result draft.new session.new told.new }
     {
         let Some(router) = &mut session.router else {
@@ -500,9 +502,9 @@ impl<'a, S: Settle> Settler<'a, S> {
         edits: &[Edit],
         told: &mut ChangedNodes,
     ) -> Result<bool, AnswerFault>
-        requires shared { S.can_settle self.now.settle.now }
+        requires settles { Settles F.pre F.post self.now.settle.now }
         requires lists { HasList draft.old.form told.old }
-        ensures { IsReplied (S.never_starts self.now.settle.now) (answer_form draft.old) session.old
+        ensures { IsReplied (NeverStarts F.post self.now.settle.now) (answer_form draft.old) session.old
             (Ok (make_edits edits.now)) told.old result draft.new session.new told.new }
     {
         let Some(router) = &mut session.router else {
@@ -527,9 +529,9 @@ impl<'a, S: Settle> Settler<'a, S> {
         dest: u32,
         told: &mut ChangedNodes,
     ) -> Result<bool, AnswerFault>
-        requires shared { S.can_settle self.now.settle.now }
+        requires settles { Settles F.pre F.post self.now.settle.now }
         requires lists { HasList draft.old.form told.old }
-        ensures { IsReplied (S.never_starts self.now.settle.now) (answer_form draft.old) session.old
+        ensures { IsReplied (NeverStarts F.post self.now.settle.now) (answer_form draft.old) session.old
             (Ok (move_dest dest)) told.old result draft.new session.new told.new }
     {
         let Some(router) = &mut session.router else {
@@ -554,10 +556,10 @@ impl<'a, S: Settle> Settler<'a, S> {
         draft: &mut Draft,
         told: &mut ChangedNodes,
     ) -> Result<(), NotMade>
-        requires shared { S.can_settle self.now.settle.now }
+        requires settles { Settles F.pre F.post self.now.settle.now }
         requires lists { HasList draft.old.form told.old }
         requires node { revision.now.dest < router.old.nodes }
-        ensures revised { IsRevised (S.never_starts self.now.settle.now) draft.old.form router.old revision.now told.old
+        ensures revised { IsRevised (NeverStarts F.post self.now.settle.now) draft.old.form router.old revision.now told.old
             result draft.new.text router.new told.new }
         ensures same { answer_form draft.new ≡ answer_form draft.old }
     {

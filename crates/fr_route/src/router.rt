@@ -4,7 +4,8 @@ ghost use Rattle.std.specs.Prelude.{◌≡◌, ◌≢◌, ◌<◌, ◌≤◌, []
 ghost use Rattle.std.specs.Prelude.{Some, IfOk, IfErr, IfSome, MatchOption, OnErr, OnOk};
 ghost use Rattle.std.specs.Option.{option_copied};
 ghost use Rattle.fr_graph.specs.Limits.{most_edits};
-ghost use Rattle.fr_crew.specs.Settlements.{IsCounted};
+ghost use Rattle.fr_crew.specs.Settlements.{CanBegin, IsCounted};
+ghost use Rattle.fr_route.specs.Ways.{Settles, NeverStarts};
 ghost use Rattle.fr_route.specs.declared.fault.RouteFault.TheVariants.{Start, Memory};
 ghost use Rattle.fr_route.specs.Listing.{nodes_told};
 ghost use Rattle.fr_route.specs.NodeWays.{AreAllWays, AreNodeWays, AreWaysBelow, HasDistance, IsNearest};
@@ -31,10 +32,10 @@ use crate::outcome::{
 };
 use crate::reroutes::Reroutes;
 use crate::revision::Revision;
-use crate::settling::{OnCallingThread, Settle, Settler};
+use crate::settling::{Settler, counts_without_crew};
 use crate::spare_turns::SpareTurns;
 use crate::turn_candidates::TurnCandidates;
-use fr_crew::{Crew, Gate, Plan};
+use fr_crew::{Crew, CrewFault, Gate, Plan, settled_counts};
 use fr_graph::{Edit, MAX_EDITS, Net, NetFault, Turns};
 use fr_nearest::Distances;
 use fr_tables::{Hop, TableFault, first_outside, known_push_order};
@@ -118,12 +119,12 @@ fn ways_before(alloc: Global, before: Option<&Router>) -> Result<WayTable, Alloc
     }
 }
 
-impl<'a, S: Settle> Settler<'a, S> {
+impl<'a, F: Fn(&Net, u32, Option<&[u32]>, Turns) -> Result<Turns, CrewFault>> Settler<'a, F> {
     /// Settles a network.
     pub(crate) fn open(&self, net: Net, dest: u32) -> Result<Router, RouteFault>
-        requires { S.can_settle self.now.settle.now }
+        requires { Settles F.pre F.post self.now.settle.now }
         ensures opened { IfOk result (λ router. (dest < net.nodes) × IsRound net.nodes dest net.links router) }
-        ensures fault { IfErr result (IsRoundFault (S.never_starts self.now.settle.now) net dest) }
+        ensures fault { IfErr result (IsRoundFault (NeverStarts F.post self.now.settle.now) net dest) }
     {
         let turns = self.first_counts(&net, dest)?;
         Router::settled(self.alloc, net, dest, turns)
@@ -137,8 +138,8 @@ impl<'a, S: Settle> Settler<'a, S> {
         change: &Change,
         told: &mut ChangedNodes,
     ) -> Result<Report, NotMade>
-        requires { S.can_settle self.now.settle.now }
-        ensures { IsTried (S.never_starts self.now.settle.now) (change_of router.old change.now)
+        requires { Settles F.pre F.post self.now.settle.now }
+        ensures { IsTried (NeverStarts F.post self.now.settle.now) (change_of router.old change.now)
             router.old told.old result router.new told.new }
     {
         let dest = router.dest();
@@ -168,8 +169,8 @@ impl<'a, S: Settle> Settler<'a, S> {
         edit: Edit,
         told: &mut ChangedNodes,
     ) -> Result<Report, NotMade>
-        requires { S.can_settle self.now.settle.now }
-        ensures { IsTried (S.never_starts self.now.settle.now) (edit_of router.old edit router.old.dest)
+        requires { Settles F.pre F.post self.now.settle.now }
+        ensures { IsTried (NeverStarts F.post self.now.settle.now) (edit_of router.old edit router.old.dest)
             router.old told.old result router.new told.new }
     {
         let dest = router.dest();
@@ -184,9 +185,9 @@ impl<'a, S: Settle> Settler<'a, S> {
         revision: &Revision<'_>,
         told: &mut ChangedNodes,
     ) -> Result<Report, NotMade>
-        requires shared { S.can_settle self.now.settle.now }
+        requires settles { Settles F.pre F.post self.now.settle.now }
         requires node { revision.now.dest < router.old.nodes }
-        ensures { IsTried (S.never_starts self.now.settle.now) (revision_of router.old revision.now)
+        ensures { IsTried (NeverStarts F.post self.now.settle.now) (revision_of router.old revision.now)
             router.old told.old result router.new told.new }
     {
         let movable = router.turn_candidates(self.alloc, revision)?;
@@ -240,7 +241,13 @@ impl Router {
             plan,
             gate,
         };
-        Settler::new(alloc, &crew).open(net, dest)
+        Settler::new(
+            alloc,
+            &|net, dest, from, turns|
+                requires { CanBegin net.now dest from turns }
+            { settled_counts(&crew, net, dest, from, turns) },
+        )
+        .open(net, dest)
     }
 
     /// Opens a router as [`open`](Self::open) does, on the calling thread. It starts no thread, does not wait, and
@@ -250,7 +257,7 @@ impl Router {
         ensures fault { IfErr result (IsOpenFault net.nodes dest) }
         ensures no_start { IfErr result (λ fault. fault ≢ Start) }
     {
-        Settler::new(alloc, &OnCallingThread).open(net, dest)
+        Settler::new(alloc, &counts_without_crew).open(net, dest)
     }
 
     /// The router of a network with these settled counts.
@@ -297,7 +304,7 @@ impl Router {
     ///
     /// The cost is that of [`Net::edit_if`], and O((e + k + 1) d) for e edits and k nodes with links that the last
     /// round cut off. It is O(n) more if k is not 0, at the first change, and after a failed call. If nodes turn, there
-    /// is also the cost of [`settled_counts`](fr_crew::settled_counts) and [`Net::turn`], and one step for each link of these nodes and of the
+    /// is also the cost of [`settled_counts`] and [`Net::turn`], and one step for each link of these nodes and of the
     /// neighbours that sent on to them.
     pub fn change<R: Threads + Wait + Sync, G: Gate + Sync>(
         &mut self,
@@ -324,16 +331,17 @@ impl Router {
             plan,
             gate,
         };
-        without_edit_place(Settler::new(alloc, &crew).change(
-            self,
-            &change,
-            &mut ChangedNodes::Unlisted,
-        ))
+        without_edit_place(Settler::new(
+            alloc,
+            &|net, dest, from, turns|
+                requires { CanBegin net.now dest from turns }
+            { settled_counts(&crew, net, dest, from, turns) },
+        )
+        .change(self, &change, &mut ChangedNodes::Unlisted))
     }
 
     /// Changes the network as [`change`](Self::change) does, on the calling thread. It starts no thread, does not wait,
-    /// and never fails with `Start`. The cost is that of `change`, with [`settled_counts_alone`](fr_crew::settled_counts_alone) if nodes
-    /// turn.
+    /// and never fails with `Start`. The cost is that of `change`, with [`settled_counts_alone`] if nodes turn.
     pub fn change_alone(&mut self, alloc: Global, change: Change) -> Result<Report, RouteFault>
         ensures changed { IfOk result (λ _. IsChanged self.old change self.new) }
         ensures report { IfOk result (λ report. IsReport self.new report.turned report.cut) }
@@ -341,7 +349,7 @@ impl Router {
         ensures unchanged { OnErr result (self.new ≡ self.old) }
         ensures no_start { IfErr result (λ fault. fault ≢ Start) }
     {
-        without_edit_place(Settler::new(alloc, &OnCallingThread).change(
+        without_edit_place(Settler::new(alloc, &counts_without_crew).change(
             self,
             &change,
             &mut ChangedNodes::Unlisted,
@@ -373,7 +381,7 @@ impl Router {
         ensures no_start { IfErr result (λ undone. undone.fault ≢ Start) }
     {
         let mut told = ChangedNodes::from_list(rerouted, alloc);
-        let report = Settler::new(alloc, &OnCallingThread).change(self, &change, &mut told);
+        let report = Settler::new(alloc, &counts_without_crew).change(self, &change, &mut told);
         *rerouted = told.into_list(alloc);
         report
     }
@@ -402,7 +410,7 @@ impl Router {
         ensures unchanged { OnErr result (self.new ≡ self.old) }
         ensures no_start { IfErr result (λ undone. undone.fault ≢ Start) }
     {
-        Settler::new(alloc, &OnCallingThread).change(self, &change, &mut reroutes.told)
+        Settler::new(alloc, &counts_without_crew).change(self, &change, &mut reroutes.told)
     }
 
     /// The nodes that can be sinks after these edits and the move of the destination, and whose hops can be wrong even

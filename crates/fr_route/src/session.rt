@@ -7,6 +7,7 @@ ghost use Rattle.std.specs.declared.alloc.Global.{Global};
 ghost use Rattle.std.specs.declared.vec.Vec.{Vec};
 ghost use Rattle.fr_requests.specs.Requests.{ask, plain, reading};
 ghost use Rattle.fr_requests.specs.declared.requests.LineFault.TheVariants.{Memory as NoMemory};
+ghost use Rattle.fr_crew.specs.Settlements.{CanBegin};
 ghost use Rattle.fr_route.specs.Blank.{is_blank as is_blank_line};
 ghost use Rattle.fr_route.specs.Answers.{IsAnswer, IsLineAnswer, MayStartFor, MayStartForLine};
 ghost use Rattle.fr_route.specs.Forms.{IsAnswerIn, IsLineRefused};
@@ -18,9 +19,9 @@ use crate::changed_nodes::ChangedNodes;
 use crate::fault::AnswerFault;
 use crate::form::{Answer, Draft, Form, Line};
 use crate::router::Router;
-use crate::settling::{OnCallingThread, Settler};
+use crate::settling::{Settler, counts_without_crew};
 use crate::space::AnswerSpace;
-use fr_crew::{Crew, Gate, Plan};
+use fr_crew::{Crew, Gate, Plan, settled_counts};
 use fr_graph::Net;
 use fr_requests::{LineFault, LineReader, Question, Request};
 use std::alloc::Global;
@@ -170,7 +171,11 @@ impl Session {
             (λ answer. IfSome answer (λ text. (self.new ≡ self.old) ⊎ (length (string_bytes text) ≤ longest_report))) }
         ensures no_start { IfErr result (λ fault. fault ≢ Start) }
     {
-        Settler::new(alloc, &OnCallingThread).text_for_line(self, line, &mut ChangedNodes::Unlisted)
+        Settler::new(alloc, &counts_without_crew).text_for_line(
+            self,
+            line,
+            &mut ChangedNodes::Unlisted,
+        )
     }
 
     /// Answers a line as [`answer_line_alone`](Self::answer_line_alone) does, and lists the nodes that the line
@@ -197,7 +202,7 @@ impl Session {
         ensures no_start { IfErr result (λ fault. fault ≢ Start) }
     {
         let mut told = ChangedNodes::from_list(rerouted, alloc);
-        let answer = Settler::new(alloc, &OnCallingThread).text_for_line(self, line, &mut told);
+        let answer = Settler::new(alloc, &counts_without_crew).text_for_line(self, line, &mut told);
         *rerouted = told.into_list(alloc);
         answer
     }
@@ -225,7 +230,13 @@ impl Session {
             plan,
             gate,
         };
-        Settler::new(alloc, &crew).text_for_request(self, request, &mut ChangedNodes::Unlisted)
+        Settler::new(
+            alloc,
+            &|net, dest, from, turns|
+                requires { CanBegin net.now dest from turns }
+            { settled_counts(&crew, net, dest, from, turns) },
+        )
+        .text_for_request(self, request, &mut ChangedNodes::Unlisted)
     }
 
     /// Answers a request as [`answer`](Self::answer) does, on the calling thread, and lists the nodes that the request
@@ -247,7 +258,7 @@ impl Session {
         ensures no_start { IfErr result (λ fault. fault ≢ Start) }
     {
         let mut told = ChangedNodes::from_list(rerouted, alloc);
-        let answer = Settler::new(alloc, &OnCallingThread).text_for_request(
+        let answer = Settler::new(alloc, &counts_without_crew).text_for_request(
             self, request, &mut told,
         );
         *rerouted = told.into_list(alloc);
@@ -286,7 +297,13 @@ impl Session {
         ensures one_worker { crew.now.plan.now.workers ≡ 1 → IfErr result (λ fault. fault ≢ Start) }
         ensures no_start { crew.now.plan.now.budget ≡ 0 → IfErr result (λ fault. fault ≢ Start) }
     {
-        Settler::new(crew.alloc, crew).reply_line_in(self, form, line, space)
+        Settler::new(
+            crew.alloc,
+            &|net, dest, from, turns|
+                requires { CanBegin net.now dest from turns }
+            { settled_counts(crew, net, dest, from, turns) },
+        )
+        .reply_line_in(self, form, line, space)
     }
 
     /// Answers a line in this form as [`answer_line_in`](Self::answer_line_in) does, on the calling thread. It starts
@@ -310,7 +327,7 @@ impl Session {
         ensures unchanged { OnErr result ((is_blank_line line.entry.bytes.now ≡ false) × (self.new ≡ self.old)) }
         ensures no_start { IfErr result (λ fault. fault ≢ Start) }
     {
-        Settler::new(alloc, &OnCallingThread).reply_line_in(self, form, line, space)
+        Settler::new(alloc, &counts_without_crew).reply_line_in(self, form, line, space)
     }
 
     /// Answers a question, as [`Session::answer`] does. This changes nothing. Fails only with `Memory`. O(b) for b

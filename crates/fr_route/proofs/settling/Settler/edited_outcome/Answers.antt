@@ -18,7 +18,7 @@ pub edit_if-requires : goal.edit_if-requires
 edit_if-requires g c = record {
   callable = λ made is.
       let nodes = made_nodes c.args.net.now c.args.revision.now.edits.now made.now is in
-      (c.requires.shared, (omega (arith, c.requires.few.0, nodes), c.requires.from made.now is));
+      (c.requires.settles, (omega (arith, c.requires.few.0, nodes), c.requires.from made.now is));
 }
 
 -- why the edits are not made, or why there is no round on the network that they make
