@@ -8,7 +8,12 @@ use fr_net::{Edit, EditFault, Net, NetFault, NotEdited};
 use serde_json::Value;
 
 /// Answers a question about edits of a network. Returns whether it is such a question.
-pub fn answer_case(answer: &mut Answer, net: &mut Net, asked: &str, given: &[Value]) -> bool {
+pub fn answer_network_case(
+    answer: &mut Answer,
+    net: &mut Net,
+    asked: &str,
+    given: &[Value],
+) -> bool {
     match (asked, given) {
         ("edits", [edits]) => several(answer, net, edits),
         ("edit_if", [edits, most]) => in_place(answer, net, edits, most),

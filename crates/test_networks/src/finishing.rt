@@ -28,7 +28,7 @@ pub fn answer(answer: &mut Answer, asked: &str, given: &[Value]) -> bool {
 
 /// Answers a question about the counts of a network. Returns whether it is such a question. The destination is node 0,
 /// unless steps name another.
-pub fn answer_case(answer: &mut Answer, net: &Net, asked: &str, given: &[Value]) -> bool {
+pub fn answer_network_case(answer: &mut Answer, net: &Net, asked: &str, given: &[Value]) -> bool {
     match (asked, given) {
         ("finish_turns", []) => finished(answer, net, true),
         ("turn_count", []) => finished(answer, net, false),

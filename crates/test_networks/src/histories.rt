@@ -8,7 +8,7 @@ use serde_json::Value;
 
 /// Answers the counts that a history leads to, or its first entry that is not legal. Returns whether that is the
 /// question.
-pub fn answer_case(answer: &mut Answer, net: &Net, asked: &str, given: &[Value]) -> bool {
+pub fn answer_network_case(answer: &mut Answer, net: &Net, asked: &str, given: &[Value]) -> bool {
     match (asked, given) {
         ("history", [dest, entries]) => history(answer, net, dest, entries),
         _ => return false,

@@ -12,7 +12,7 @@ use std::alloc::Global;
 
 /// Answers a question about a machine on a network, with its destination, the targets of each worker, and the worker of
 /// each step. Returns whether it is such a question.
-pub fn answer_case(answer: &mut Answer, net: &Net, asked: &str, given: &[Value]) -> bool {
+pub fn answer_network_case(answer: &mut Answer, net: &Net, asked: &str, given: &[Value]) -> bool {
     match (asked, given) {
         ("play", [dest, targets, order]) => played(answer, net, dest, targets, order),
         ("by_hand", [dest, targets, order]) => by_hand(answer, net, dest, targets, order),

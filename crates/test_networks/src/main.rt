@@ -70,7 +70,7 @@ fn answer_word(answer: &mut Answer, asked: &str, given: &[Value]) {
     match given {
         _ if is_known => {}
         [nodes, links, given @ ..] => match network(answer, nodes, links) {
-            Ok(net) => answer_case(answer, net, asked, given),
+            Ok(net) => answer_network_case(answer, net, asked, given),
             Err(fault) => tell_fault(answer, fault),
         },
         _ => answer.note_no_case(),
@@ -78,12 +78,12 @@ fn answer_word(answer: &mut Answer, asked: &str, given: &[Value]) {
 }
 
 /// Answers the question of a word about a network.
-fn answer_case(answer: &mut Answer, mut net: Net, asked: &str, given: &[Value]) {
-    let is_known = networks::answer_case(answer, &net, asked, given)
-        || finishing::answer_case(answer, &net, asked, given)
-        || machines::answer_case(answer, &net, asked, given)
-        || histories::answer_case(answer, &net, asked, given)
-        || edits::answer_case(answer, &mut net, asked, given);
+fn answer_network_case(answer: &mut Answer, mut net: Net, asked: &str, given: &[Value]) {
+    let is_known = networks::answer_network_case(answer, &net, asked, given)
+        || finishing::answer_network_case(answer, &net, asked, given)
+        || machines::answer_network_case(answer, &net, asked, given)
+        || histories::answer_network_case(answer, &net, asked, given)
+        || edits::answer_network_case(answer, &mut net, asked, given);
     if !is_known {
         answer.note_no_case();
     }

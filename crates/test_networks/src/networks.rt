@@ -22,7 +22,7 @@ pub fn answer(answer: &mut Answer, asked: &str, given: &[Value]) -> bool {
 }
 
 /// Answers a question about a network. Returns whether it is such a question.
-pub fn answer_case(answer: &mut Answer, net: &Net, asked: &str, given: &[Value]) -> bool {
+pub fn answer_network_case(answer: &mut Answer, net: &Net, asked: &str, given: &[Value]) -> bool {
     match (asked, given) {
         ("rows", []) => rows(answer, net),
         ("copied", []) => copied(answer, net),
