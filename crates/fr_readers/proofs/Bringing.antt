@@ -39,7 +39,7 @@ module _ (k : HopKnowledge) (s : Option State) (nodes : List ℕ) where
   none_to_push history can none = ⊎_elim (λ are. are) (λ l.
       let long : length (last_hops k) ≡ length l.hops =
       (last_is_table hop_codec k.nodes k.known history).one_each ∙ (can.largest
-          ∙ sym (length_in s most_nodes l.hops l.are)) in
+      ∙ sym (length_in s most_nodes l.hops l.are)) in
       let same : last_hops k ≡ l.hops = ends_as_new (last_hops k) l.hops [] (last_hops k) long
       (subst (IsPushOrder (last_hops k) l.hops) none l.order) (starts_as_old (last_hops k) l.hops) in
       subst (AreHopsIn s most_nodes) (sym same) l.are)

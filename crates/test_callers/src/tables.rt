@@ -3,7 +3,7 @@
 ghost use Rattle.std.specs.Prelude.{◌≡◌, OnOk, OnErr};
 ghost use Rattle.fr_tables.specs.Tables.{IsLoopFree};
 
-use fr_tables::laws::{push_order_law, push_law};
+use fr_tables::laws::{push_law, push_order_law};
 use fr_tables::{Hop, TableFault, push_order};
 use std::alloc::Global;
 

@@ -35,7 +35,10 @@ pub fn early_readers<R: Alloc<A = Global> + Eprint>(rt: &R, answer: &mut Answer)
         if answer.value_or_report(rt, session.reader(alloc)).is_some() {
             answer.say("reader");
         }
-        if answer.value_or_report(rt, session.way_reader(alloc)).is_some() {
+        if answer
+            .value_or_report(rt, session.way_reader(alloc))
+            .is_some()
+        {
             answer.say("way reader");
         }
     }

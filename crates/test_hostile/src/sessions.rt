@@ -106,7 +106,10 @@ fn answered<R: Threads + Wait + Sync + Alloc<A = Global> + Eprint>(
             rt,
             session.answer_line(rt, rt.alloc(), line.as_bytes(), plan, &OpenGate),
         )?,
-        Form::Json | Form::JsonWithWays => value_or_report(rt, json_answer(rt, session, form, line, plan))?,
+        Form::Json | Form::JsonWithWays => value_or_report(
+            rt,
+            json_answer(rt, session, form, line, plan),
+        )?,
     }
 }
 

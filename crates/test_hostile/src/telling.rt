@@ -6,7 +6,10 @@ use std::alloc::Global;
 use std::fmt::{Debug, Display, Write};
 
 /// The result of a call. A fault, which must be missing memory or a missing thread, is reported.
-pub fn value_or_report<T: Drop, E: Display + Drop, R: Eprint>(rt: &R, outcome: Result<T, E>) -> Option<T>
+pub fn value_or_report<T: Drop, E: Display + Drop, R: Eprint>(
+    rt: &R,
+    outcome: Result<T, E>,
+) -> Option<T>
     ensures { IfSome result (λ value. outcome ≡ Ok value) }
 {
     match outcome {
