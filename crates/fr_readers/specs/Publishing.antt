@@ -8,7 +8,7 @@ use Rattle.fr_route.specs.WayPushes.{AreWayChanges}
 use Rattle.fr_tables.specs.Pushes.{IsPushOrder}
 use Rattle.fr_tables.specs.declared.hop.Hop.{Hop}
 use Rattle.fr_shared.specs.HopTables.{HopKnowledge, last_hops, pushes_of}
-use Rattle.fr_shared.specs.WayTables.{WayKnowledge, last_ways, pushes_of}
+use Rattle.fr_shared.specs.WayTables.{WayKnowledge, last_ways, pushes_of as way_pushes}
 use Rattle.fr_readers.specs.Published.{HasFirstWays, HasHopsOf, HasWaysOf, Published, WayPushes}
 
 -- the network of a session is the result of a round and within the limit
@@ -63,7 +63,7 @@ PublishesTo table new = PublishesIn table new.session new.rerouted new.table
 -- lead to them were made, shrinks before grows
 pub record PublishesWays (k : WayKnowledge) (s : Option State) (k' : WayKnowledge) : Type 0 where
   pub has : HasWaysOf s k'
-  pub by : (k' ≡ k) ⊎ (k' ≡ record k { known = k.known ++ pushes_of (last_ways k) (last_ways k') })
+  pub by : (k' ≡ k) ⊎ (k' ≡ record k { known = k.known ++ way_pushes (last_ways k) (last_ways k') })
 
 -- the same if there is such a table
 abbrev pub PublishesWaysIn : Option WayKnowledge → Option State → Option WayKnowledge → Type 0
