@@ -7,9 +7,7 @@ use mir.Val.{Val, vptr}
 use base.Fraction.{full_share}
 use base.Logic.{SProp, ent, sep, emp, via, fst∗, id⊢}
 use base.Fml.{GName, Fml, fex, flft, fsep, ftrue}
-use prog.Memory.{Memory}
 use prog.Model.{Model}
-use prog.Routine.{Routine}
 use prog.Wp.{Closed}
 use types.Logic.{Logic, sem}
 use types.Kit.{‵, raw, ◌⊛◌, some, later, at_ret, ◌$◌, ◌∵◌, !, qed, by, move, keep, split, split3, join, fsplit3, fjoin}
@@ -17,14 +15,14 @@ use types.Kit.{use0, use1, rewrite, await, pick, group}
 use types.Run.{stop, addr, of_opd, first, blocks, exec, returns, enter}
 use types.ByLocal.{alloc_all, pass_all, free_all, look_at, get, through, sets, sets_last, env}
 use types.Mut.{open_ref}
-use contract.Monad.{Fun, fact, fact_i}
+use contract.Monad.{fact, fact_i}
 use contract.Running.{Running, tables}
 use denote.Exit.{no}
 use denote.RattleType.{RattleType}
-use denote.Memory.{cell_raw, lone, mem, part_at, part_of, pointee, raw_all}
+use denote.Memory.{cell_raw, lone, mem, part_of, pointee, raw_all}
 use denote.Ref.{MutRef, mut_vals, mut_Tells}
 use denote.Follow.{follows, Part, lends_Part}
-use denote.Signature.{Signature, plain, mut_ref_to}
+use denote.Signature.{plain, mut_ref_to}
 use denote.Steps.{nothing}
 use denote.Triple.Clauses.{Clauses, Ended, closing}
 use denote.Triple.Spec.{Meets}

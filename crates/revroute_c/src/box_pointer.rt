@@ -5,7 +5,6 @@ ghost use Rattle.std.specs.Borrow.{sem};
 ghost use denote.RawPtr.{null_ptr};
 ghost use Rattle.revroute_c.specs.Owning.{owned_at};
 
-use crate::box_parts::BoxParts;
 use std::alloc::Global;
 use std::marker::Model;
 use std::mem::replace;
@@ -39,24 +38,24 @@ impl<T: NullValue + Drop> BoxPointer<T> {
         BoxPointer { at: null_mut() }
     }
 
-    /// The pointer of a box in parts.
-    fn of(loose: BoxParts<T, Global>) -> BoxPointer<T>
-        ensures { result.value ≡ loose.value }
+    /// The pointer of a box.
+    fn of(value: Box<T>) -> BoxPointer<T>
+        ensures { result.value ≡ value.value }
     {
-        let BoxParts { at, alloc: _ } = loose;
-        BoxPointer { at }
+        BoxPointer {
+            at: Box::into_raw(value),
+        }
     }
 
-    /// The box in parts, unless the pointer is null.
-    fn into_box_parts(self, alloc: Global) -> Option<BoxParts<T, Global>>
-        ensures { MatchOption result (self.value ≡ T.null_value) (λ loose. self.value ≡ loose.value) }
+    /// The box, unless the pointer is null.
+    fn into_box(self, alloc: Global) -> Option<Box<T>>
+        ensures { MatchOption result (self.value ≡ T.null_value) (λ taken. self.value ≡ taken.value) }
     {
         let BoxPointer { at } = self;
         if at.is_null() {
-            None
-        } else {
-            Some(BoxParts { at, alloc })
+            return None;
         }
+        unsafe { Some(Box::from_raw(alloc, at)) }
     }
 
     /// Takes the value out of its place, which is then null. `None` if it was null before.
@@ -65,11 +64,7 @@ impl<T: NullValue + Drop> BoxPointer<T> {
         ensures left { self.new.value ≡ T.null_value }
         ensures null { self.new.at ≡ null_ptr }
     {
-        let pointer = replace(self, BoxPointer::null());
-        match pointer.into_box_parts(alloc) {
-            Some(loose) => Some(loose.into_box()),
-            None => None,
-        }
+        replace(self, BoxPointer::null()).into_box(alloc)
     }
 
     /// The value, in place. `None` if the pointer is null.
@@ -89,6 +84,6 @@ impl<T: NullValue + Drop> BoxPointer<T> {
         ensures { self.new.value ≡ value.value }
     {
         drop(self.take(alloc));
-        *self = BoxPointer::of(BoxParts::of(value));
+        *self = BoxPointer::of(value);
     }
 }

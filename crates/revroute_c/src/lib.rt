@@ -12,7 +12,6 @@ ghost use Rattle.revroute_c.specs.Lending.{held_by};
 ghost use Rattle.revroute_c.specs.Replies.{IsWritten};
 ghost use Rattle.revroute_c.specs.Statuses.{REVROUTE_ANSWERED, REVROUTE_TOO_SHORT};
 
-mod box_parts;
 mod box_pointer;
 mod closed_walks;
 mod cycle_calls;
