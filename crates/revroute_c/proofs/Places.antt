@@ -103,7 +103,8 @@ module _ (H P : RattleType) (handle_of : P.Denot → H.Denot) (pointer_of : H.De
           (subst (λ (A : Fml). ent 𝓤 (sem 𝓛 ((mem P).own_at w b o)) (sem 𝓛 A)) (same_place w b o) (id⊢ 𝓤 _)) in
           use1 𝓛 (later (some (λ (γ' : GName). raw
           (Part 𝓛 H P handle_of (named 0) κ q b o b o γ (emp 𝓤) back p γ'))))
-          (lends_Part 𝓛 H P handle_of (named 0) κ q b o b o γ (emp 𝓤) back (H.coded.code r.now) (H.coded.code r.now) p) $
+          (lends_Part 𝓛 H P handle_of (named 0) κ q b o b o γ (emp 𝓤) back (H.coded.code r.now) (H.coded.code r.now)
+          p) $
           await ! tt $ pick ! (λ γ'.
           let lent : (MutRef (named 0) κ P).Denot = record { ref_ptr = (b, o); ghost_name = γ'; now = p } in
           use1 𝓛 (‵ ((MutRef (named 0) κ P).own_val lent (vptr b o ∷ [])) ⊛ ‵ (flft κ q)

@@ -10,7 +10,8 @@ use Rattle.revroute_c.specs.contracts.box_pointer.BoxPointer.{the_row}
 abbrev pub with_value : {V : Type 0} → BoxPointer V → V → BoxPointer V
 with_value p x = record p { value = x }
 
--- the pointer ends with the last value of what was lent, and is otherwise unchanged; it is unchanged if nothing was lent
+-- the pointer ends with the last value of what was lent, and is otherwise unchanged; it is unchanged if nothing was
+-- lent
 abbrev pub LendsValue : (S : RattleType) → Ghosts S.Denot → MutBor (BoxPointer S.Denot) → Option (MutBor S.Denot) → Fml
 LendsValue S g p r = LendsIf (the_row S g) S p r (with_value p.now) p.now
 

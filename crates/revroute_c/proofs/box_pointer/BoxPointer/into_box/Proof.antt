@@ -59,7 +59,8 @@ into_box_spec {M} 𝓤 𝓛 𝓜 𝓡 wired T L g n d bound glue =
     let H = 𝓛.H in let 𝓣 = tables 𝓤 H 𝓜 𝓡 𝓡.env in let S : RattleType = param 0 T in let En = ended T g n d in
     let c = clauses T g n d 𝓛 𝓜.mem 𝓡.returns in
     let fn = inst_fn (bounded (a_type ∷ []) (T, tt) (dcons n (dcons d dnil))) code.function in
-    let P : RattleType = Row S g in let B : RattleType = boxes.the_row S heap.the_row ghosts in let E : box.Bx = in_heap T L in
+    let P : RattleType = Row S g in let B : RattleType = boxes.the_row S heap.the_row ghosts in
+    let E : box.Bx = in_heap T L in
     let hs : Stays En.signature.params En.kept =
     (stay_dropped (plain (λ _. P)) no, (stay_dropped (plain (λ _. heap.the_row)) yes, tt)) in
     proved_at 𝓛 En hs c 𝓜 𝓡 (
@@ -94,7 +95,8 @@ into_box_spec {M} 𝓤 𝓛 𝓜 𝓡 wired T L g n d bound glue =
     returns_within ! Post refl (look_at ! 0 refl) $ free_all ! refl $ keep ! (5 ∷ 0 ∷ 2 ∷ 1 ∷ []) $ by !
     (leaves 𝓛 En hs c z (live 0 vnil) None (tt, (tt, tt)) (tt, (tt, tt)))) (λ wrong. absurd wrong)))
     (λ b o a' is t. let w : Val = word (block_ptr b o) in
-    let k = triple_of 𝓛 (callee.signature T Passed ghosts dict passed_drop) (callee.spec T Passed ghosts dict passed_drop 𝓛 𝓜.mem 𝓡.returns) in
+    let k = triple_of 𝓛 (callee.signature T Passed ghosts dict passed_drop)
+    (callee.spec T Passed ghosts dict passed_drop 𝓛 𝓜.mem 𝓡.returns) in
     let y : k.Ghost = (
       ((κs.0, ([], tt)), (qs.0, (full_share, tt)), tt, (a, (block_ptr b o, tt)), (h ∷ [], (vptr b o ∷ [], tt))),
       x.value,
@@ -115,7 +117,8 @@ into_box_spec {M} 𝓤 𝓛 𝓜 𝓡 wired T L g n d bound glue =
     (get ! refl) (λ wrong. absurd wrong) (λ _. skips ! $
     exec ! 𝓣.C 𝓣.Λ Ev (after 3 fn.body) (at_ret Ev Post) $ first ! $ blocks ! $
     calls_at ! (framed 𝓤 H 𝓜 𝓣) k (met 𝓤 𝓛 𝓜 𝓡 (code.calls-std_alloc::boxed::Box::from_raw 𝓡.env wired)
-    T Passed L passed_laws ghosts dict passed_drop (passed 𝓡.env (code.calls-std_heap::GlobalAllocator::allocate 𝓡.env wired)
+    T Passed L passed_laws ghosts dict passed_drop
+    (passed 𝓡.env (code.calls-std_heap::GlobalAllocator::allocate 𝓡.env wired)
     (code.calls-std_heap::GlobalAllocator::deallocate 𝓡.env wired)
     (code.calls-std_heap::GlobalAllocator::grow 𝓡.env wired)
     (code.calls-std_heap::GlobalAllocator::shrink 𝓡.env wired) M 𝓤 𝓛 𝓜 𝓡)

@@ -67,7 +67,8 @@ of_spec {M} 𝓤 𝓛 𝓜 𝓡 wired T L g n d bound glue =
     ∵ split ! $ move ! (1 ∷ []) $ fsplit ! $
     box_out E ! v z.0.4.0 (λ b o h e ws fits. box_in E ! v b o v.value e refl $
     let w : Val = box.word E h b o in let typed = box.box_typed E h b o fits in
-    let k = triple_of 𝓛 (callee.signature T Passed ghosts dict passed_drop d) (callee.spec T Passed ghosts dict passed_drop d 𝓛 𝓜.mem 𝓡.returns) in
+    let k = triple_of 𝓛 (callee.signature T Passed ghosts dict passed_drop d)
+    (callee.spec T Passed ghosts dict passed_drop d 𝓛 𝓜.mem 𝓡.returns) in
     let y : k.Ghost = (((κs.0, ([], tt)), (qs.0, (full_share, tt)), tt, (v, tt), (w ∷ [], tt)), tt) in
     fjoin ! $ move ! (1 ∷ []) $ split ! $ use0 𝓛 (‵ (flft [] full_share)) (𝓛.lfts.lft-nil full_share) $
     move ! (0 ∷ 2 ∷ []) $ join ! $ move ! (1 ∷ 0 ∷ []) $ join ! $ join ! $ move ! (1 ∷ []) $
@@ -80,7 +81,8 @@ of_spec {M} 𝓤 𝓛 𝓜 𝓡 wired T L g n d bound glue =
     enter ! 𝓣.C 𝓣.Λ fn (w ∷ []) Post $ alloc_all ! (λ l. pass_all ! refl (typed, tt) $
     sets ! (of_opd ! (get ! refl)) refl typed $
     calls_at ! (framed 𝓤 H 𝓜 𝓣) k (met 𝓤 𝓛 𝓜 𝓡 (code.calls-std_alloc::boxed::Box::into_raw 𝓡.env wired)
-    T Passed L passed_laws ghosts dict passed_drop d (passed 𝓡.env (code.calls-std_heap::GlobalAllocator::allocate 𝓡.env wired)
+    T Passed L passed_laws ghosts dict passed_drop d
+    (passed 𝓡.env (code.calls-std_heap::GlobalAllocator::allocate 𝓡.env wired)
     (code.calls-std_heap::GlobalAllocator::deallocate 𝓡.env wired)
     (code.calls-std_heap::GlobalAllocator::grow 𝓡.env wired)
     (code.calls-std_heap::GlobalAllocator::shrink 𝓡.env wired) M 𝓤 𝓛 𝓜 𝓡)
