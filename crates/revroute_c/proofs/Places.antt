@@ -50,7 +50,7 @@ module _ (H P : RattleType) (handle_of : P.Denot → H.Denot) (pointer_of : H.De
     ghost = Unit {0};
     requires = λ _. sem 𝓛 ftrue;
     ensures = λ _ lent _. sep 𝓤 (sem 𝓛 (follows H P args.0.ghost_name lent.ghost_name handle_of))
-        (fact 𝓤 (lent.now ≡ pointer_of args.0.now));
+        (fact 𝓤 (handle_of lent.now ≡ args.0.now));
   }
 
   -- the code, as it is for each handle
@@ -93,6 +93,7 @@ module _ (H P : RattleType) (handle_of : P.Denot → H.Denot) (pointer_of : H.De
           ∷ []) ∵ split ! $ split ! $ move ! (2 ∷ []) $ split ! $ keep ! (0 ∷ 2 ∷ []) $ enter ! _ _ _ _ _ $ alloc_all !
           (λ l. pass_all ! refl ((tt, tt), tt) $ let Ev = env function.locals l in
           fsplit3 ! $ move ! (1 ∷ 2 ∷ 3 ∷ []) $ open_ref ! tt (mem H) {b = b} {o = o} $
+          -- [the handle in its place; the open borrow, in three entries; the locals]
           first ! $ blocks ! $ sets ! (addr ! (through ! refl (stop !))) refl (tt, tt) $
           sets_last ! (addr ! (through ! refl (stop !))) refl (tt, tt) $
           exec ! 𝓣.C 𝓣.Λ Ev (after 1 function.body) (at_ret Ev Ends) $ sets ! (of_opd ! (get ! refl)) refl (tt, tt) $
@@ -109,6 +110,7 @@ module _ (H P : RattleType) (handle_of : P.Denot → H.Denot) (pointer_of : H.De
           let lent : (MutRef (named 0) κ P).Denot = record { ref_ptr = (b, o); ghost_name = γ'; now = p } in
           use1 𝓛 (‵ ((MutRef (named 0) κ P).own_val lent (vptr b o ∷ [])) ⊛ ‵ (flft κ q)
           ⊛ ‵ (follows H P γ γ' handle_of)) (id⊢ 𝓤 _) $ returns ! (look_at ! 0 refl) $ free_all ! refl $ split3 ! $
-          use0 𝓛 (raw (fact 𝓤 (p ≡ p))) (fact_i 𝓤 (p ≡ p) (emp 𝓤) refl) $ move ! (3 ∷ 0 ∷ []) $ join ! $ nothing ! $
+          use0 𝓛 (raw (fact 𝓤 (handle_of p ≡ r.now))) (fact_i 𝓤 (handle_of p ≡ r.now) (emp 𝓤) (back_again r.now)) $
+          move ! (3 ∷ 0 ∷ []) $ join ! $ nothing ! $
           move ! (3 ∷ 0 ∷ []) $ join ! $ nothing ! $ nothing ! $ fjoin ! $ keep ! (1 ∷ 0 ∷ 3 ∷ 2 ∷ []) $ by !
           (leaves 𝓛 ended stayed c z (vptr b o) lent (tt, tt) (tt, tt)))))

@@ -26,10 +26,7 @@ pub record IsUnchanged (old new : Handle) : Type 0 where
   pub at : new.at ≡ old.at
   pub held : held_by new ≡ held_by old
 
--- the pointer of a handle, and the handle of a pointer
-abbrev pub pointer_of : Handle → BoxPointer Held
-pointer_of h = record { at = h.at; value = held_by h }
-
+-- the handle of a pointer
 abbrev pub handle_of : BoxPointer Held → Handle
 handle_of p = record {
   at = p.at;

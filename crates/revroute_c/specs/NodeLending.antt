@@ -15,10 +15,7 @@ pub record IsSameNode (old new : NodeHandle) : Type 0 where
   pub at : new.at ≡ old.at
   pub node_state : new.node_state ≡ old.node_state
 
--- the pointer of a handle, and the handle of a pointer
-abbrev pub pointer_of : NodeHandle → BoxPointer HeldNode
-pointer_of h = record { at = h.at; value = h.node_state }
-
+-- the handle of a pointer
 abbrev pub handle_of : BoxPointer HeldNode → NodeHandle
 handle_of p = record { at = p.at; node_state = p.value }
 

@@ -16,10 +16,7 @@ pub record IsSameReader (old new : ReaderHandle) : Type 0 where
   pub at : new.at ≡ old.at
   pub reading : new.reading ≡ old.reading
 
--- the pointer of a handle, and the handle of a pointer
-abbrev pub pointer_of : ReaderHandle → BoxPointer HopKnowledge
-pointer_of h = record { at = h.at; value = h.reading }
-
+-- the handle of a pointer
 abbrev pub handle_of : BoxPointer HopKnowledge → ReaderHandle
 handle_of p = record { at = p.at; reading = p.value }
 

@@ -16,10 +16,7 @@ pub record IsSameWayReader (old new : WayReaderHandle) : Type 0 where
   pub at : new.at ≡ old.at
   pub reading : new.reading ≡ old.reading
 
--- the pointer of a handle, and the handle of a pointer
-abbrev pub pointer_of : WayReaderHandle → BoxPointer WayKnowledge
-pointer_of h = record { at = h.at; value = h.reading }
-
+-- the handle of a pointer
 abbrev pub handle_of : BoxPointer WayKnowledge → WayReaderHandle
 handle_of p = record { at = p.at; reading = p.value }
 

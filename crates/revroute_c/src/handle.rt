@@ -41,12 +41,12 @@ impl Model for Handle {
 unsafe impl Send for Handle {}
 
 impl Handle {
-    ghost use Rattle.revroute_c.specs.Lending.{LendsPointer, pointer_of};
+    ghost use Rattle.revroute_c.specs.Lending.{LendsPointer, handle_of};
 
     /// The handle as a pointer to its session state, in place.
     pub(crate) fn pointer(&mut self) -> &mut BoxPointer<SessionState>
         ensures* writes_back { sem 𝓛 (LendsPointer self.entry result) }
-        ensures value { result.now ≡ pointer_of self.old }
+        ensures same { handle_of result.now ≡ self.old }
     {
         // Both are one pointer, and own the same.
         unsafe { &mut *(self as *mut Handle).cast::<BoxPointer<SessionState>>() }

@@ -31,12 +31,12 @@ impl Model for NodeHandle {
 unsafe impl Send for NodeHandle {}
 
 impl NodeHandle {
-    ghost use Rattle.revroute_c.specs.NodeLending.{LendsPointer, pointer_of};
+    ghost use Rattle.revroute_c.specs.NodeLending.{LendsPointer, handle_of};
 
     /// The handle as a pointer to its node state, in place.
     pub(crate) fn pointer(&mut self) -> &mut BoxPointer<NodeState>
         ensures* writes_back { sem 𝓛 (LendsPointer self.entry result) }
-        ensures value { result.now ≡ pointer_of self.old }
+        ensures same { handle_of result.now ≡ self.old }
     {
         // Both are one pointer, and own the same.
         unsafe { &mut *(self as *mut NodeHandle).cast::<BoxPointer<NodeState>>() }

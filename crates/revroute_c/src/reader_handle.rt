@@ -32,12 +32,12 @@ impl Model for ReaderHandle {
 unsafe impl Send for ReaderHandle {}
 
 impl ReaderHandle {
-    ghost use Rattle.revroute_c.specs.ReaderLending.{LendsPointer, pointer_of};
+    ghost use Rattle.revroute_c.specs.ReaderLending.{LendsPointer, handle_of};
 
     /// The handle as a pointer to its reader, in place.
     pub(crate) fn pointer(&mut self) -> &mut BoxPointer<Reader>
         ensures* writes_back { sem 𝓛 (LendsPointer self.entry result) }
-        ensures value { result.now ≡ pointer_of self.old }
+        ensures same { handle_of result.now ≡ self.old }
     {
         // Both are one pointer, and own the same.
         unsafe { &mut *(self as *mut ReaderHandle).cast::<BoxPointer<Reader>>() }

@@ -32,12 +32,12 @@ impl Model for WayReaderHandle {
 unsafe impl Send for WayReaderHandle {}
 
 impl WayReaderHandle {
-    ghost use Rattle.revroute_c.specs.WayReaderLending.{LendsPointer, pointer_of};
+    ghost use Rattle.revroute_c.specs.WayReaderLending.{LendsPointer, handle_of};
 
     /// The handle as a pointer to its reader, in place.
     pub(crate) fn pointer(&mut self) -> &mut BoxPointer<Reader>
         ensures* writes_back { sem 𝓛 (LendsPointer self.entry result) }
-        ensures value { result.now ≡ pointer_of self.old }
+        ensures same { handle_of result.now ≡ self.old }
     {
         // Both are one pointer, and own the same.
         unsafe { &mut *(self as *mut WayReaderHandle).cast::<BoxPointer<Reader>>() }
