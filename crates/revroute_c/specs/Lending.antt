@@ -1,11 +1,14 @@
--- The value of a handle, and when it is unchanged. This project's own. For proofs only: its value after its session
--- state was lent for changes.
-use Rattle.std.specs.Prelude.{◌≡◌, Option}
+-- The value of a handle, and when it is unchanged. This project's own. For proofs only: its value after its pointer was
+-- lent for changes.
+use Rattle.std.specs.Prelude.{◌≡◌}
+use denote.RattleType.{RattleType}
 use denote.RawPtr.{null_ptr}
-use Rattle.std.specs.Borrow.{Fml, MutBor, LendsIf}
+use Rattle.std.specs.Borrow.{Fml, MutBor, Lends}
 use Rattle.fr_readers.specs.Published.{published}
 use Rattle.revroute_c.specs.SessionStates.{Held, held, no_session}
+use Rattle.revroute_c.specs.BoxLending.{pointer_row}
 use Rattle.revroute_c.specs.contracts.session_state.SessionState.{the_row as session_row}
+use Rattle.revroute_c.specs.declared.box_pointer.BoxPointer.{BoxPointer}
 use Rattle.revroute_c.specs.declared.handle.Handle.{Handle}
 use Rattle.revroute_c.specs.contracts.handle.Handle.{the_row}
 
@@ -23,19 +26,21 @@ pub record IsUnchanged (old new : Handle) : Type 0 where
   pub at : new.at ≡ old.at
   pub held : held_by new ≡ held_by old
 
--- the same handle with this session state
-abbrev pub with_state : Handle → Held → Handle
-with_state h e =
-    record h {
-      session = e.session;
-      rerouted = e.rerouted;
-      table = e.table;
-      ways = e.ways;
-      pushes = e.pushes;
-      begun = e.begun;
-    }
+-- the handle of a pointer
+abbrev pub handle_of : BoxPointer Held → Handle
+handle_of p = record {
+  at = p.at;
+  session = p.value.session;
+  rerouted = p.value.rerouted;
+  table = p.value.table;
+  ways = p.value.ways;
+  pushes = p.value.pushes;
+  begun = p.value.begun;
+}
 
--- the handle ends with the last value of the lent session state, and is otherwise unchanged; it is unchanged if nothing
--- was lent
-abbrev pub LendsSessionState : MutBor Handle → Option (MutBor Held) → Fml
-LendsSessionState h r = LendsIf the_row session_row h r (with_state h.now) h.now
+abbrev pub session_pointer : RattleType
+session_pointer = pointer_row session_row no_session
+
+-- the handle ends as its pointer does
+abbrev pub LendsPointer : MutBor Handle → MutBor (BoxPointer Held) → Fml
+LendsPointer h p = Lends the_row session_pointer h p handle_of

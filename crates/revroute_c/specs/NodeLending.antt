@@ -1,26 +1,27 @@
--- The value of a node's handle, and when it is unchanged. This project's own. For proofs only: its value after its
--- node state was lent.
-use Rattle.std.specs.Prelude.{◌≡◌, Option}
-use Rattle.std.specs.Borrow.{Fml, MutBor, LendsIf}
-use Rattle.revroute_c.specs.NodeStates.{HeldNode}
+-- When a node's handle is unchanged. This project's own. For proofs only: its value after its pointer was lent for
+-- changes.
+use Rattle.std.specs.Prelude.{◌≡◌}
+use denote.RattleType.{RattleType}
+use Rattle.std.specs.Borrow.{Fml, MutBor, Lends}
+use Rattle.revroute_c.specs.BoxLending.{pointer_row}
+use Rattle.revroute_c.specs.NodeStates.{HeldNode, no_node}
 use Rattle.revroute_c.specs.contracts.node_state.NodeState.{the_row as node_row}
+use Rattle.revroute_c.specs.declared.box_pointer.BoxPointer.{BoxPointer}
 use Rattle.revroute_c.specs.declared.node_handle.NodeHandle.{NodeHandle}
 use Rattle.revroute_c.specs.contracts.node_handle.NodeHandle.{the_row}
-
--- the value of the node state of a handle
-abbrev pub kept_by : NodeHandle → HeldNode
-kept_by h = h.node_state
 
 -- the handle and its value are unchanged
 pub record IsSameNode (old new : NodeHandle) : Type 0 where
   pub at : new.at ≡ old.at
   pub node_state : new.node_state ≡ old.node_state
 
--- the same handle with this node state
-abbrev pub with_node_state : NodeHandle → HeldNode → NodeHandle
-with_node_state h k = record h { node_state = k }
+-- the handle of a pointer
+abbrev pub handle_of : BoxPointer HeldNode → NodeHandle
+handle_of p = record { at = p.at; node_state = p.value }
 
--- the handle ends with the last value of the lent node state, and is otherwise unchanged; it is unchanged if nothing
--- was lent
-abbrev pub LendsNodeState : MutBor NodeHandle → Option (MutBor HeldNode) → Fml
-LendsNodeState h r = LendsIf the_row node_row h r (with_node_state h.now) h.now
+abbrev pub node_pointer : RattleType
+node_pointer = pointer_row node_row no_node
+
+-- the handle ends as its pointer does
+abbrev pub LendsPointer : MutBor NodeHandle → MutBor (BoxPointer HeldNode) → Fml
+LendsPointer h p = Lends the_row node_pointer h p handle_of

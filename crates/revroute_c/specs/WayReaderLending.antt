@@ -1,26 +1,28 @@
--- The value of the handle of a reader of ways, and when it is unchanged. This project's own. For proofs only: its value
--- after its reader was lent.
-use Rattle.std.specs.Prelude.{◌≡◌, Option}
-use Rattle.std.specs.Borrow.{Fml, MutBor, LendsIf}
+-- When the handle of a reader of ways is unchanged. This project's own. For proofs only: its value after its pointer
+-- was lent for changes.
+use Rattle.std.specs.Prelude.{◌≡◌}
+use denote.RattleType.{RattleType}
+use Rattle.std.specs.Borrow.{Fml, MutBor, Lends}
 use Rattle.fr_shared.specs.WayTables.{WayKnowledge}
-use Rattle.revroute_c.specs.ReaderRows.{way_reader as reader_row}
+use Rattle.revroute_c.specs.BoxLending.{pointer_row}
+use Rattle.revroute_c.specs.WayReaders.{no_way_reader}
+use Rattle.revroute_c.specs.ReaderRows.{way_reader}
+use Rattle.revroute_c.specs.declared.box_pointer.BoxPointer.{BoxPointer}
 use Rattle.revroute_c.specs.declared.way_reader_handle.WayReaderHandle.{WayReaderHandle}
 use Rattle.revroute_c.specs.contracts.way_reader_handle.WayReaderHandle.{the_row}
-
--- the value of the reader of a handle
-abbrev pub ways_read_by : WayReaderHandle → WayKnowledge
-ways_read_by h = h.reading
 
 -- the handle and its value are unchanged
 pub record IsSameWayReader (old new : WayReaderHandle) : Type 0 where
   pub at : new.at ≡ old.at
   pub reading : new.reading ≡ old.reading
 
--- the same handle with this reader
-abbrev pub with_way_reader : WayReaderHandle → WayKnowledge → WayReaderHandle
-with_way_reader h k = record h { reading = k }
+-- the handle of a pointer
+abbrev pub handle_of : BoxPointer WayKnowledge → WayReaderHandle
+handle_of p = record { at = p.at; reading = p.value }
 
--- the handle ends with the last value of the lent reader, and is otherwise unchanged; it is unchanged if nothing was
--- lent
-abbrev pub LendsWayReader : MutBor WayReaderHandle → Option (MutBor WayKnowledge) → Fml
-LendsWayReader h r = LendsIf the_row reader_row h r (with_way_reader h.now) h.now
+abbrev pub way_reader_pointer : RattleType
+way_reader_pointer = pointer_row way_reader no_way_reader
+
+-- the handle ends as its pointer does
+abbrev pub LendsPointer : MutBor WayReaderHandle → MutBor (BoxPointer WayKnowledge) → Fml
+LendsPointer h p = Lends the_row way_reader_pointer h p handle_of

@@ -44,7 +44,7 @@ pub extern "C" fn revroute_closed_walk(
         ⊎ (result ≡ REVROUTE_NO_WALK) }
 {
     *size = 0;
-    match handle.session_state_mut() {
+    match handle.pointer().value_mut() {
         Some(state) => walk_of_change(state.session(), alloc, edits, nodes, size),
         None => NO_NETWORK,
     }

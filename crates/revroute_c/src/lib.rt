@@ -12,7 +12,7 @@ ghost use Rattle.revroute_c.specs.Lending.{held_by};
 ghost use Rattle.revroute_c.specs.Replies.{IsWritten};
 ghost use Rattle.revroute_c.specs.Statuses.{REVROUTE_ANSWERED, REVROUTE_TOO_SHORT};
 
-mod box_parts;
+mod box_pointer;
 mod closed_walks;
 mod cycle_calls;
 mod handle;
@@ -46,9 +46,13 @@ mod ways;
 
 use fr_route::VERSION;
 use handle::Handle;
+use node_handle::NodeHandle;
+use reader_handle::ReaderHandle;
 use replies::hand_out;
 use statuses::TOO_SHORT;
 use std::alloc::Global;
+use std::marker::Send;
+use way_reader_handle::WayReaderHandle;
 
 /// Releases all memory of the session. The handle is then null. O(1).
 #[unsafe(no_mangle)]
@@ -57,7 +61,7 @@ pub extern "C" fn revroute_close(alloc: Global, handle: &mut Handle)
     ensures none { held_by handle.new ≡ no_session }
     ensures null { handle.new.at ≡ null_ptr }
 {
-    drop(Handle::taken(handle, alloc));
+    drop(handle.pointer().take(alloc));
 }
 
 /// Writes the version of the engine to the front of the buffer, and its length to `size`. Returns `TOO_SHORT` if the
@@ -70,4 +74,15 @@ pub extern "C" fn revroute_version(text: &mut [u8], size: &mut usize) -> u32
     ensures status { (result ≡ REVROUTE_ANSWERED) ⊎ (result ≡ REVROUTE_TOO_SHORT) }
 {
     hand_out(VERSION.as_bytes(), text, size)
+}
+
+/// Compiles only if values of type `T` may go to another thread.
+fn may_be_sent<T: Send>() {}
+
+/// Shows that each handle may go to another thread. It only has to pass the check.
+fn handles_may_be_sent() {
+    may_be_sent::<Handle>();
+    may_be_sent::<NodeHandle>();
+    may_be_sent::<ReaderHandle>();
+    may_be_sent::<WayReaderHandle>();
 }

@@ -49,7 +49,7 @@ pub extern "C" fn revroute_answer(
     if is_blank(line) {
         return BLANK;
     }
-    match handle.session_state_mut() {
+    match handle.pointer().value_mut() {
         Some(state) => reply(state, alloc, line, answer, size),
         None => reply_in_new_session(handle, alloc, line, answer, size),
     }
@@ -87,7 +87,7 @@ pub extern "C" fn revroute_take(
         *size = LEAST_ROOM;
         return TOO_SHORT;
     }
-    match handle.session_state_mut() {
+    match handle.pointer().value_mut() {
         Some(state) => take_front(state, alloc, piece, answer, size).tell(taken),
         None => take_in_new_session(handle, alloc, piece, answer, size).tell(taken),
     }
@@ -115,7 +115,7 @@ pub extern "C" fn revroute_finish(
         *size = LEAST_ROOM;
         return TOO_SHORT;
     }
-    match handle.session_state_mut() {
+    match handle.pointer().value_mut() {
         Some(state) => finish_line(state, alloc, answer, size),
         None => BLANK,
     }

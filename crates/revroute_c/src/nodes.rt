@@ -86,7 +86,7 @@ pub extern "C" fn revroute_node_open(
     };
     match Box::new(alloc, NodeState::new(alloc, node)) {
         Ok(node_state) => {
-            NodeHandle::put(handle, alloc, node_state);
+            handle.pointer().put(alloc, node_state);
             ANSWERED
         }
         Err(_) => NO_MEMORY,
@@ -110,7 +110,7 @@ pub extern "C" fn revroute_node_open_gateway(
     let node = Node::gateway(alloc, me, boot);
     match Box::new(alloc, NodeState::new(alloc, node)) {
         Ok(node_state) => {
-            NodeHandle::put(handle, alloc, node_state);
+            handle.pointer().put(alloc, node_state);
             ANSWERED
         }
         Err(_) => NO_MEMORY,
@@ -132,7 +132,7 @@ pub extern "C" fn revroute_node_know(handle: &mut NodeHandle, neighbour: u32, co
         handle.old.node_state handle.new.node_state }
     ensures same_handle { handle.new.at ≡ handle.old.at }
 {
-    match handle.node_state_mut() {
+    match handle.pointer().value_mut() {
         Some(node_state) => node_state.know(neighbour, cost),
         None => NO_NETWORK,
     }
@@ -148,7 +148,7 @@ pub extern "C" fn revroute_node_link_up(handle: &mut NodeHandle, neighbour: u32)
         handle.old.node_state handle.new.node_state }
     ensures same_handle { handle.new.at ≡ handle.old.at }
 {
-    match handle.node_state_mut() {
+    match handle.pointer().value_mut() {
         Some(node_state) => node_state.set_link_state(neighbour, true),
         None => NO_NETWORK,
     }
@@ -162,7 +162,7 @@ pub extern "C" fn revroute_node_link_down(handle: &mut NodeHandle, neighbour: u3
         handle.old.node_state handle.new.node_state }
     ensures same_handle { handle.new.at ≡ handle.old.at }
 {
-    match handle.node_state_mut() {
+    match handle.pointer().value_mut() {
         Some(node_state) => node_state.set_link_state(neighbour, false),
         None => NO_NETWORK,
     }
@@ -184,7 +184,7 @@ pub extern "C" fn revroute_node_set_cost(handle: &mut NodeHandle, neighbour: u32
         handle.old.node_state handle.new.node_state }
     ensures same_handle { handle.new.at ≡ handle.old.at }
 {
-    match handle.node_state_mut() {
+    match handle.pointer().value_mut() {
         Some(node_state) => node_state.set_cost(neighbour, cost),
         None => NO_NETWORK,
     }
@@ -200,7 +200,7 @@ pub extern "C" fn revroute_node_tick(handle: &mut NodeHandle, patience: u32) -> 
     ensures ticks { InNode (TicksOnce patience result) (result ≡ 0) handle.old.node_state handle.new.node_state }
     ensures same_handle { handle.new.at ≡ handle.old.at }
 {
-    match handle.node_state_mut() {
+    match handle.pointer().value_mut() {
         Some(node_state) => node_state.tick(patience),
         None => 0,
     }
@@ -216,7 +216,7 @@ pub extern "C" fn revroute_node_act(handle: &mut NodeHandle) -> u32
     ensures acts { InNode (ActsAgain result) (result ≡ 0) handle.old.node_state handle.new.node_state }
     ensures same_handle { handle.new.at ≡ handle.old.at }
 {
-    match handle.node_state_mut() {
+    match handle.pointer().value_mut() {
         Some(node_state) => node_state.act(),
         None => 0,
     }
@@ -241,7 +241,7 @@ pub extern "C" fn revroute_node_hear(handle: &mut NodeHandle, bytes: &[u8]) -> u
         handle.old.node_state handle.new.node_state }
     ensures same_handle { handle.new.at ≡ handle.old.at }
 {
-    match handle.node_state_mut() {
+    match handle.pointer().value_mut() {
         Some(node_state) => node_state.hear(bytes),
         None => NO_NETWORK,
     }
@@ -261,7 +261,7 @@ pub extern "C" fn revroute_node_written(handle: &mut NodeHandle, state: u64) -> 
         handle.old.node_state handle.new.node_state }
     ensures same_handle { handle.new.at ≡ handle.old.at }
 {
-    match handle.node_state_mut() {
+    match handle.pointer().value_mut() {
         Some(node_state) => node_state.written(state),
         None => NO_NETWORK,
     }
@@ -292,7 +292,7 @@ pub extern "C" fn revroute_node_say(
     ensures same_handle { handle.new.at ≡ handle.old.at }
 {
     *size = 0;
-    match handle.node_state_mut() {
+    match handle.pointer().value_mut() {
         Some(node_state) => node_state.say(neighbour, message, size),
         None => NO_NETWORK,
     }
@@ -317,7 +317,7 @@ pub extern "C" fn revroute_node_has_news(
         ((result ≡ REVROUTE_NO_NETWORK) × (news.new ≡ news.old)) handle.old.node_state }
     ensures same { IsSameNode handle.old handle.new }
 {
-    match handle.node_state_mut() {
+    match handle.pointer().value_mut() {
         Some(node_state) => node_state.tell_news(neighbour, news),
         None => NO_NETWORK,
     }
@@ -346,7 +346,7 @@ pub extern "C" fn revroute_node_ways(
     ensures status { (result ≡ REVROUTE_ANSWERED) ⊎ (result ≡ REVROUTE_TOO_SHORT) ⊎ (result ≡ REVROUTE_NO_NETWORK) }
 {
     *size = 0;
-    match handle.node_state_mut() {
+    match handle.pointer().value_mut() {
         Some(node_state) => node_state.list_ways(ways, size, state),
         None => NO_NETWORK,
     }
@@ -369,7 +369,7 @@ pub extern "C" fn revroute_node_gates(
     ensures status { (result ≡ REVROUTE_ANSWERED) ⊎ (result ≡ REVROUTE_TOO_SHORT) ⊎ (result ≡ REVROUTE_NO_NETWORK) }
 {
     *size = 0;
-    match handle.node_state_mut() {
+    match handle.pointer().value_mut() {
         Some(node_state) => node_state.list_gates(gates, size, state),
         None => NO_NETWORK,
     }
@@ -389,7 +389,7 @@ pub extern "C" fn revroute_node_distance(handle: &mut NodeHandle, distance: &mut
         ((result ≡ REVROUTE_NO_NETWORK) × (distance.new ≡ distance.old)) handle.old.node_state }
     ensures same { IsSameNode handle.old handle.new }
 {
-    match handle.node_state_mut() {
+    match handle.pointer().value_mut() {
         Some(node_state) => node_state.tell_distance(distance),
         None => NO_NETWORK,
     }
@@ -402,7 +402,7 @@ pub extern "C" fn revroute_node_height(handle: &mut NodeHandle, height: &mut u64
         ((result ≡ REVROUTE_NO_NETWORK) × (height.new ≡ height.old)) handle.old.node_state }
     ensures same { IsSameNode handle.old handle.new }
 {
-    match handle.node_state_mut() {
+    match handle.pointer().value_mut() {
         Some(node_state) => {
             *height = node_state.height();
             ANSWERED
@@ -419,7 +419,7 @@ pub extern "C" fn revroute_node_lets_in(handle: &mut NodeHandle, neighbour: u32)
     ensures safe { OfNode (IsSafeGate neighbour result) ⊤ handle.old.node_state }
     ensures same { IsSameNode handle.old handle.new }
 {
-    match handle.node_state_mut() {
+    match handle.pointer().value_mut() {
         Some(node_state) => node_state.lets_in(neighbour),
         None => 0,
     }
@@ -433,7 +433,7 @@ pub extern "C" fn revroute_node_sends_to(handle: &mut NodeHandle, neighbour: u32
     ensures safe { OfNode (IsSafeWay neighbour result) ⊤ handle.old.node_state }
     ensures same { IsSameNode handle.old handle.new }
 {
-    match handle.node_state_mut() {
+    match handle.pointer().value_mut() {
         Some(node_state) => node_state.sends_to(neighbour),
         None => 0,
     }
@@ -445,5 +445,5 @@ pub extern "C" fn revroute_node_close(alloc: Global, handle: &mut NodeHandle)
     ensures none { handle.new.node_state ≡ None }
     ensures null { handle.new.at ≡ null_ptr }
 {
-    drop(NodeHandle::taken(handle, alloc));
+    drop(handle.pointer().take(alloc));
 }

@@ -112,7 +112,7 @@ pub(crate) fn take_in_new_session(
     };
     let taken = take_front(&mut state, alloc, piece, answer, size);
     if taken.status == ANSWERED || taken.status == BEGUN {
-        Handle::put(handle, state);
+        handle.pointer().put(alloc, state);
     }
     taken
 }

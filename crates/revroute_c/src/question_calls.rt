@@ -33,7 +33,7 @@ pub extern "C" fn revroute_next_hop(handle: &mut Handle, node: u32) -> u32
     ensures hop { TellsHop handle.old.session node result }
     ensures same { IsUnchanged handle.old handle.new }
 {
-    match handle.session_state_mut() {
+    match handle.pointer().value_mut() {
         Some(state) => hop_in(state.session(), node),
         None => HOP_OF_NO_NETWORK,
     }
@@ -51,7 +51,7 @@ pub extern "C" fn revroute_hops(handle: &mut Handle, hops: &mut [u32], size: &mu
     ensures status { (result ≡ REVROUTE_ANSWERED) ⊎ (result ≡ REVROUTE_TOO_SHORT) ⊎ (result ≡ REVROUTE_NO_NETWORK) }
 {
     *size = 0;
-    match handle.session_state_mut() {
+    match handle.pointer().value_mut() {
         Some(state) => write_hops(state.session(), hops, size),
         None => NO_NETWORK,
     }
@@ -70,7 +70,7 @@ pub extern "C" fn revroute_changed(handle: &mut Handle, nodes: &mut [u32], size:
     ensures status { (result ≡ REVROUTE_ANSWERED) ⊎ (result ≡ REVROUTE_TOO_SHORT) ⊎ (result ≡ REVROUTE_NO_NETWORK) }
 {
     *size = 0;
-    let Some(state) = handle.session_state_mut() else {
+    let Some(state) = handle.pointer().value_mut() else {
         return NO_NETWORK;
     };
     if state.session().router().is_none() {
@@ -108,7 +108,7 @@ pub extern "C" fn revroute_pushes(
         ⊎ (result ≡ REVROUTE_NO_TABLE) }
 {
     *size = 0;
-    match handle.session_state_mut() {
+    match handle.pointer().value_mut() {
         Some(state) => write_pushes(state.session(), alloc, table, nodes, size),
         None => NO_NETWORK,
     }
@@ -156,7 +156,7 @@ pub extern "C" fn revroute_counts(handle: &mut Handle, counts: &mut [u64], size:
     ensures status { (result ≡ REVROUTE_ANSWERED) ⊎ (result ≡ REVROUTE_TOO_SHORT) ⊎ (result ≡ REVROUTE_NO_NETWORK) }
 {
     *size = 0;
-    match handle.session_state_mut() {
+    match handle.pointer().value_mut() {
         Some(state) => write_counts(state.session(), counts, size),
         None => NO_NETWORK,
     }
@@ -189,7 +189,7 @@ pub extern "C" fn revroute_walk(
     ensures status { (result ≡ REVROUTE_ANSWERED) ⊎ ((REVROUTE_TOO_SHORT ≤ result) × (result ≤ REVROUTE_NO_ROUTE)) }
 {
     *size = 0;
-    match handle.session_state_mut() {
+    match handle.pointer().value_mut() {
         Some(state) => write_walk(state.session(), alloc, node, nodes, size),
         None => NO_NETWORK,
     }
@@ -216,7 +216,7 @@ pub extern "C" fn revroute_links(
     ensures status { (result ≡ REVROUTE_ANSWERED) ⊎ ((REVROUTE_TOO_SHORT ≤ result) × (result ≤ REVROUTE_NO_NETWORK)) }
 {
     *size = 0;
-    match handle.session_state_mut() {
+    match handle.pointer().value_mut() {
         Some(state) => write_links(state.session(), alloc, links, size),
         None => NO_NETWORK,
     }
@@ -238,7 +238,7 @@ pub extern "C" fn revroute_report(handle: &mut Handle, round: &mut Round) -> u32
         turned: 0,
         cut_off: 0,
     };
-    match handle.session_state_mut() {
+    match handle.pointer().value_mut() {
         Some(state) => write_report(state.session(), round),
         None => NO_NETWORK,
     }
@@ -250,7 +250,7 @@ pub extern "C" fn revroute_dest(handle: &mut Handle) -> u32
     ensures dest { TellsDest handle.old.session result }
     ensures same { IsUnchanged handle.old handle.new }
 {
-    match handle.session_state_mut() {
+    match handle.pointer().value_mut() {
         Some(state) => dest_in(state.session()),
         None => HOP_OF_NO_NETWORK,
     }
@@ -270,7 +270,7 @@ pub extern "C" fn revroute_size(handle: &mut Handle, nodes: &mut u32, links: &mu
 {
     *nodes = 0;
     *links = 0;
-    match handle.session_state_mut() {
+    match handle.pointer().value_mut() {
         Some(state) => write_size(state.session(), nodes, links),
         None => NO_NETWORK,
     }

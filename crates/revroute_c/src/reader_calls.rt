@@ -45,13 +45,13 @@ pub extern "C" fn revroute_reader_open(
     ensures handle { (handle.new.at ≡ handle.old.at) ⊎ ((handle.old.at ≡ null_ptr) × (result ≡ REVROUTE_ANSWERED)) }
     ensures status { (result ≡ REVROUTE_ANSWERED) ⊎ (result ≡ REVROUTE_NO_MEMORY) }
 {
-    let opened = match handle.session_state_mut() {
+    let opened = match handle.pointer().value_mut() {
         Some(state) => reader_in(state, alloc),
         None => reader_of_new_session(handle, alloc),
     };
     match opened {
         Ok(opened) => {
-            ReaderHandle::put(reader, alloc, opened);
+            reader.pointer().put(alloc, opened);
             ANSWERED
         }
         Err(_) => NO_MEMORY,
@@ -78,13 +78,13 @@ pub extern "C" fn revroute_reader_copy(
     ensures no_network { (result ≡ REVROUTE_NO_NETWORK) ↔ (reader.old.at ≡ null_ptr) }
     ensures status { (result ≡ REVROUTE_ANSWERED) ⊎ (result ≡ REVROUTE_NO_MEMORY) ⊎ (result ≡ REVROUTE_NO_NETWORK) }
 {
-    let Some(held) = reader.reader_mut() else {
+    let Some(held) = reader.pointer().value_mut() else {
         return NO_NETWORK;
     };
     let Ok(copy) = copy_reader(held, alloc) else {
         return NO_MEMORY;
     };
-    ReaderHandle::put(other, alloc, copy);
+    other.pointer().put(alloc, copy);
     ANSWERED
 }
 
@@ -111,10 +111,10 @@ pub extern "C" fn revroute_reader_learn(reader: &mut ReaderHandle, other: &mut R
     ensures no_network { (result ≡ REVROUTE_NO_NETWORK) ↔ ((reader.old.at ≡ null_ptr) ⊎ (other.old.at ≡ null_ptr)) }
     ensures status { (result ≡ REVROUTE_ANSWERED) ⊎ (result ≡ REVROUTE_NO_NETWORK) }
 {
-    let Some(held) = reader.reader_mut() else {
+    let Some(held) = reader.pointer().value_mut() else {
         return NO_NETWORK;
     };
-    let Some(knowing) = other.reader_mut() else {
+    let Some(knowing) = other.pointer().value_mut() else {
         return NO_NETWORK;
     };
     held.learn(knowing.past());
@@ -132,7 +132,7 @@ pub extern "C" fn revroute_reader_next_hop(reader: &mut ReaderHandle, node: u32)
     ensures hop { reader.old.at ≢ null_ptr → TellsHopRead reader.old.reading reader.new.reading node result }
     ensures same_handle { reader.new.at ≡ reader.old.at }
 {
-    match reader.reader_mut() {
+    match reader.pointer().value_mut() {
         Some(held) => read_hop(held, node),
         None => HOP_OF_NO_NETWORK,
     }
@@ -168,7 +168,7 @@ pub extern "C" fn revroute_reader_walk(
         ⊎ (result ≡ REVROUTE_NO_ROUTE) }
 {
     *size = 0;
-    match reader.reader_mut() {
+    match reader.pointer().value_mut() {
         Some(held) => read_walk(held, node, nodes, size),
         None => NO_NETWORK,
     }
@@ -181,5 +181,5 @@ pub extern "C" fn revroute_reader_close(alloc: Global, reader: &mut ReaderHandle
     ensures none { reader.new.reading ≡ no_reader }
     ensures null { reader.new.at ≡ null_ptr }
 {
-    drop(ReaderHandle::taken(reader, alloc));
+    drop(reader.pointer().take(alloc));
 }

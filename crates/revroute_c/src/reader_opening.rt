@@ -32,6 +32,6 @@ pub(crate) fn reader_of_new_session(
 {
     let mut state = Box::new(alloc, SessionState::new(alloc))?;
     let reader = reader_in(&mut state, alloc)?;
-    Handle::put(handle, state);
+    handle.pointer().put(alloc, state);
     Ok(reader)
 }

@@ -73,7 +73,7 @@ pub(crate) fn reply_in_new_session(
     };
     let status = reply(&mut state, alloc, line, answer, size);
     if status == ANSWERED {
-        Handle::put(handle, state);
+        handle.pointer().put(alloc, state);
     }
     status
 }

@@ -60,7 +60,7 @@ pub extern "C" fn revroute_open(
         return refuse_links(refusal, &fault);
     }
     let asked = NewNetwork { nodes, dest, links };
-    match handle.session_state_mut() {
+    match handle.pointer().value_mut() {
         Some(state) => open_in(state, alloc, &asked, round, refusal),
         None => open_in_new_session(handle, alloc, &asked, round, refusal),
     }
@@ -107,7 +107,7 @@ pub extern "C" fn revroute_change(
         *refusal = unknown_at(at);
         return REFUSED;
     }
-    match handle.session_state_mut() {
+    match handle.pointer().value_mut() {
         Some(state) => {
             let asked = NewEdits {
                 edits,
@@ -153,7 +153,7 @@ pub extern "C" fn revroute_change_with_ways(
         *refusal = unknown_at(at);
         return REFUSED;
     }
-    match handle.session_state_mut() {
+    match handle.pointer().value_mut() {
         Some(state) => {
             let asked = NewEdits {
                 edits,
@@ -186,7 +186,7 @@ pub extern "C" fn revroute_move_dest(
     ensures status { (result ≡ REVROUTE_ANSWERED) ⊎ (result ≡ REVROUTE_NO_MEMORY) ⊎ (result ≡ REVROUTE_NO_NETWORK)
         ⊎ (result ≡ REVROUTE_REFUSED) }
 {
-    match handle.session_state_mut() {
+    match handle.pointer().value_mut() {
         Some(state) => move_dest_in(state, alloc, dest, round, refusal),
         None => NO_NETWORK,
     }

@@ -170,7 +170,7 @@ pub(crate) fn open_in_new_session(
     };
     let status = open_in(&mut state, alloc, asked, round, refusal);
     if status == ANSWERED {
-        Handle::put(handle, state);
+        handle.pointer().put(alloc, state);
     }
     status
 }

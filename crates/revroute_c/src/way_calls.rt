@@ -41,7 +41,7 @@ pub extern "C" fn revroute_ways(
     ensures status { (result ≡ REVROUTE_ANSWERED) ⊎ ((REVROUTE_TOO_SHORT ≤ result) × (result ≤ REVROUTE_NO_ROUTE)) }
 {
     *size = 0;
-    match handle.session_state_mut() {
+    match handle.pointer().value_mut() {
         Some(state) => write_ways(&mut state.published, &mut state.ways, node, ways, size),
         None => NO_NETWORK,
     }
@@ -56,7 +56,7 @@ pub extern "C" fn revroute_distance(handle: &mut Handle, node: u32) -> u32
     ensures distance { TellsDistance handle.old.session node result }
     ensures same { IsUnchanged handle.old handle.new }
 {
-    match handle.session_state_mut() {
+    match handle.pointer().value_mut() {
         Some(state) => distance_in(&mut state.published, node),
         None => HOP_OF_NO_NETWORK,
     }
@@ -84,7 +84,7 @@ pub extern "C" fn revroute_nearest(
     ensures status { (result ≡ REVROUTE_ANSWERED) ⊎ ((REVROUTE_TOO_SHORT ≤ result) × (result ≤ REVROUTE_NO_ROUTE)) }
 {
     *size = 0;
-    match handle.session_state_mut() {
+    match handle.pointer().value_mut() {
         Some(state) => write_nearest(&mut state.published, alloc, node, nodes, size),
         None => NO_NETWORK,
     }
@@ -116,7 +116,7 @@ pub extern "C" fn revroute_all_ways(
     ensures status { (result ≡ REVROUTE_ANSWERED) ⊎ ((REVROUTE_TOO_SHORT ≤ result) × (result ≤ REVROUTE_NO_NETWORK)) }
 {
     *size = 0;
-    match handle.session_state_mut() {
+    match handle.pointer().value_mut() {
         Some(state) => write_all_ways(state.session(), alloc, starts, ways, size),
         None => NO_NETWORK,
     }
@@ -159,7 +159,7 @@ pub extern "C" fn revroute_shrink(
         ⊎ (result ≡ REVROUTE_NO_TABLE) }
 {
     *size = 0;
-    match handle.session_state_mut() {
+    match handle.pointer().value_mut() {
         Some(state) => write_way_pushes(
             state.session(),
             alloc,
@@ -200,7 +200,7 @@ pub extern "C" fn revroute_grow(
         ⊎ (result ≡ REVROUTE_NO_TABLE) }
 {
     *size = 0;
-    match handle.session_state_mut() {
+    match handle.pointer().value_mut() {
         Some(state) => write_way_pushes(
             state.session(),
             alloc,
@@ -239,7 +239,7 @@ pub extern "C" fn revroute_change_shrink(
     ensures status { (result ≡ REVROUTE_ANSWERED) ⊎ (result ≡ REVROUTE_TOO_SHORT) ⊎ (result ≡ REVROUTE_NO_MEMORY) }
 {
     *size = 0;
-    match handle.session_state_mut() {
+    match handle.pointer().value_mut() {
         Some(state) => hand_out_pushes(alloc, &state.published.shrink(), pushes, size),
         None => hand_out(&[], pushes, size),
     }
@@ -261,7 +261,7 @@ pub extern "C" fn revroute_change_grow(
     ensures status { (result ≡ REVROUTE_ANSWERED) ⊎ (result ≡ REVROUTE_TOO_SHORT) ⊎ (result ≡ REVROUTE_NO_MEMORY) }
 {
     *size = 0;
-    match handle.session_state_mut() {
+    match handle.pointer().value_mut() {
         Some(state) => hand_out_pushes(alloc, &state.published.grow(), pushes, size),
         None => hand_out(&[], pushes, size),
     }

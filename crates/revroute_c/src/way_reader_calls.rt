@@ -46,13 +46,13 @@ pub extern "C" fn revroute_way_reader_open(
     ensures handle { (handle.new.at ≡ handle.old.at) ⊎ ((handle.old.at ≡ null_ptr) × (result ≡ REVROUTE_ANSWERED)) }
     ensures status { (result ≡ REVROUTE_ANSWERED) ⊎ (result ≡ REVROUTE_NO_MEMORY) }
 {
-    let opened = match handle.session_state_mut() {
+    let opened = match handle.pointer().value_mut() {
         Some(state) => way_reader_in(state, alloc),
         None => way_reader_of_new_session(handle, alloc),
     };
     match opened {
         Ok(opened) => {
-            WayReaderHandle::put(reader, alloc, opened);
+            reader.pointer().put(alloc, opened);
             ANSWERED
         }
         Err(_) => NO_MEMORY,
@@ -74,13 +74,13 @@ pub extern "C" fn revroute_way_reader_copy(
     ensures no_network { (result ≡ REVROUTE_NO_NETWORK) ↔ (reader.old.at ≡ null_ptr) }
     ensures status { (result ≡ REVROUTE_ANSWERED) ⊎ (result ≡ REVROUTE_NO_MEMORY) ⊎ (result ≡ REVROUTE_NO_NETWORK) }
 {
-    let Some(held) = reader.reader_mut() else {
+    let Some(held) = reader.pointer().value_mut() else {
         return NO_NETWORK;
     };
     let Ok(copy) = copy_way_reader(held, alloc) else {
         return NO_MEMORY;
     };
-    WayReaderHandle::put(other, alloc, copy);
+    other.pointer().put(alloc, copy);
     ANSWERED
 }
 
@@ -104,10 +104,10 @@ pub extern "C" fn revroute_way_reader_learn(
     ensures no_network { (result ≡ REVROUTE_NO_NETWORK) ↔ ((reader.old.at ≡ null_ptr) ⊎ (other.old.at ≡ null_ptr)) }
     ensures status { (result ≡ REVROUTE_ANSWERED) ⊎ (result ≡ REVROUTE_NO_NETWORK) }
 {
-    let Some(held) = reader.reader_mut() else {
+    let Some(held) = reader.pointer().value_mut() else {
         return NO_NETWORK;
     };
-    let Some(knowing) = other.reader_mut() else {
+    let Some(knowing) = other.pointer().value_mut() else {
         return NO_NETWORK;
     };
     held.learn(knowing.past());
@@ -143,7 +143,7 @@ pub extern "C" fn revroute_way_reader_ways(
         ⊎ (result ≡ REVROUTE_NO_ROUTE) }
 {
     *size = 0;
-    match reader.reader_mut() {
+    match reader.pointer().value_mut() {
         Some(held) => read_ways(held, node, ways, size),
         None => NO_NETWORK,
     }
@@ -166,7 +166,7 @@ pub extern "C" fn revroute_way_reader_way(
         → TellsWayRead reader.old.reading reader.new.reading node choice result }
     ensures same_handle { reader.new.at ≡ reader.old.at }
 {
-    match reader.reader_mut() {
+    match reader.pointer().value_mut() {
         Some(held) => read_way(held, node, choice),
         None => HOP_OF_NO_NETWORK,
     }
@@ -179,5 +179,5 @@ pub extern "C" fn revroute_way_reader_close(alloc: Global, reader: &mut WayReade
     ensures none { reader.new.reading ≡ no_way_reader }
     ensures null { reader.new.at ≡ null_ptr }
 {
-    drop(WayReaderHandle::taken(reader, alloc));
+    drop(reader.pointer().take(alloc));
 }

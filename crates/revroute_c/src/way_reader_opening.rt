@@ -35,6 +35,6 @@ pub(crate) fn way_reader_of_new_session(
 {
     let mut state = Box::new(alloc, SessionState::new(alloc))?;
     let reader = way_reader_in(&mut state, alloc)?;
-    Handle::put(handle, state);
+    handle.pointer().put(alloc, state);
     Ok(reader)
 }

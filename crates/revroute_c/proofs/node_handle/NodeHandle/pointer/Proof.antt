@@ -1,0 +1,13 @@
+-- `pointer` lends the handle's own place.
+use Rattle.std.proofs.Common.{refl}
+use Rattle.revroute_c.specs.NodeLending.{handle_of, node_pointer}
+use Rattle.revroute_c.specs.contracts.node_handle.NodeHandle.{the_row}
+use Rattle.revroute_c.specs.contracts.node_handle.NodeHandle.pointer.Key.{name}
+use Rattle.revroute_c.proofs.Places.{lends_place}
+use Rattle.revroute_c.proofs.node_handle.NodeHandle.pointer.Statement.{statement}
+use Rattle.revroute_c.proofs.node_handle.NodeHandle.pointer.Code as code
+
+pub pointer_spec : {M : Type 1} → statement M
+pointer_spec 𝓤 𝓛 𝓜 𝓡 wired =
+    lends_place the_row node_pointer handle_of (λ h. record { at = h.at; value = h.node_state }) refl (λ p vs. refl) (λ h. refl)
+    𝓛 𝓜 𝓡 name (code.unfolded 𝓤 𝓛.H 𝓜 𝓡 wired)
