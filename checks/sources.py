@@ -17,12 +17,14 @@ ROOTS = ("lib", "main", "mod")
 
 
 class Function(NamedTuple):
-    """A function. `line` is that of its name, and `begin` that of its first attribute, both from 1."""
+    """A function. `line` is that of its name, and `begin` that of its first attribute, both from 1. The prover calls it `proved_as`, which is `path`
+    unless its impl is for one type among those that its type can be made of, as `impl Reader<Hop>`."""
 
     path: str
     line: int
     begin: int
     is_public: bool
+    proved_as: str
 
 
 def modules(file):
@@ -38,6 +40,12 @@ def home(crate, file, name):
     return modules(found[0].relative_to(crate)) if len(found) == 1 else modules(file)
 
 
+def made_of(block):
+    """The words of an impl's type behind its name that are no parameters of the impl: `Hop` in `impl Reader<Hop>`."""
+    words = re.match(GENERICS, block.string[block.end() :])
+    return [it for it in re.findall(r"(?<!')\b\w+", words[0]) if it not in re.findall(r"\w+", block[1] or "")] if words else []
+
+
 def functions(crate, file, text):
     """The functions of a file of a crate. `text` is what it has, which can differ from the file in `crate`."""
     lines, block = text.splitlines(), None
@@ -48,13 +56,16 @@ def functions(crate, file, text):
         elif found := IMPL.match(line):
             block = found
         elif found := FUNCTION.match(line):
-            module, owner = modules(file), []
+            module, owner, proved = modules(file), [], None
             if found[1] and block:
                 parameters, trait, *arguments = [it or "" for it in block.groups()[:-1]]
                 name = block[5].rpartition("::")[2]
                 module = module if trait else home(crate, file, name)
                 owner = ["".join([name, trait, *(it for it in arguments if it not in re.findall(r"\w+", parameters))])]
-            yield Function("::".join([*module, *owner, found[3]]), at + 1, begin(at) + 1, bool(found[2]))
+                if not trait and made_of(block):
+                    proved = "::".join([*modules(file), "+".join([name, *made_of(block)]), found[3]])
+            path = "::".join([*module, *owner, found[3]])
+            yield Function(path, at + 1, begin(at) + 1, bool(found[2]), proved or path)
 
 
 def edited(crate, edit):
